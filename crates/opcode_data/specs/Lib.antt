@@ -1,0 +1,5 @@
+pub mod Lists
+pub mod Cells
+pub mod Data
+pub mod Rule
+pub mod Format
