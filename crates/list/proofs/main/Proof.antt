@@ -1,0 +1,70 @@
+-- A session's answer is never longer than the buffer it was given into, so the part that is written out is a part of it.
+-- Assumes nothing.
+use Prim.Native.Nat.{ℕ, _≤_}
+use mathlib.Core.Path.{_≡_, refl, sym}
+use mathlib.Core.Bool.{Bool, true, false, cond}
+use mathlib.Core.List.{List}
+use native.Mathlib.Omega.{arith}
+use lib.Dec.{leb}
+use lib.ListN.{length}
+use lib.Seq.{length-take-le}
+use borrow.Author.Needs.{needs}
+use borrow.Author.Tests.{leb-true}
+use Rattle.text.specs.Given.{Wanted, says, refuses, accepted, refused, Gives}
+use Rattle.text.specs.declared.Written.{Written}
+use Rattle.list.proofs.main.Statement.{statement}
+use Rattle.list.proofs.main.Tie as tie
+
+given-within : (w : Wanted) {before after : List ℕ} {r : Written} → Gives w before after r → r .length ≤ length before
+given-within (refuses n) g = rw (g .answer) (omega arith)
+given-within (says t) {before} g = rw (g .answer) (go (leb (length t) (length before)) refl)
+  where
+    go : (b : Bool) → leb (length t) (length before) ≡ b → cond b (accepted (length t)) (refused 3) .length ≤ length before
+    go true e = leb-true (length t) (length before) e
+    go false e = omega arith
+
+slice-aggregate-read-full : tie.Need-slice-aggregate-read-full
+slice-aggregate-read-full c = search needs
+
+read-full-requires : tie.Need-read-full-requires
+read-full-requires c κs = search needs
+
+array-share-prefix-input : tie.Need-array-share-prefix-input
+array-share-prefix-input c = search needs
+
+slice-aggregate-session : tie.Need-slice-aggregate-session
+slice-aggregate-session c = search needs
+
+slice-aggregate-session-2 : tie.Need-slice-aggregate-session-2
+slice-aggregate-session-2 c = search needs
+
+session-requires : tie.Need-session-requires
+session-requires c κs = search needs
+
+array-share-prefix-out : tie.Need-array-share-prefix-out
+array-share-prefix-out c = omega (arith, given-within _ (c .before .session .ensures))
+
+slice-aggregate-write-all : tie.Need-slice-aggregate-write-all
+slice-aggregate-write-all c =
+    sym (length-take-le _ (c .before .before .session .last .1 .0) (omega (arith, given-within _ (c .before .before .session .ensures))))
+
+write-all-requires : tie.Need-write-all-requires
+write-all-requires c κs = search needs
+
+returns : tie.Need-returns
+returns c = search needs
+
+pub main-spec : {M : Type 1} → statement M
+main-spec =
+    tie.close
+    (tie.spec
+    slice-aggregate-read-full
+    read-full-requires
+    array-share-prefix-input
+    slice-aggregate-session
+    slice-aggregate-session-2
+    session-requires
+    array-share-prefix-out
+    slice-aggregate-write-all
+    write-all-requires
+    returns)

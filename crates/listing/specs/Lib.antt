@@ -1,0 +1,4 @@
+pub mod Instruction
+pub mod Session
+pub mod Lengths
+pub mod Fits
