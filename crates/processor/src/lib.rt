@@ -7,6 +7,7 @@ mod shifts;
 mod sums;
 mod words;
 
+pub use sums::difference;
 ghost use Prim.Native.Nat.{_≤_};
 ghost use mathlib.Core.Path.{_≡_};
 ghost use Rattle.processor.specs.Record.{started, nzOf, nzWordOf, wordOf};

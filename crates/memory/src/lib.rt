@@ -1,0 +1,62 @@
+// Reads and stores of the lent memory, and the marks that they leave in the two maps.
+ghost use lib.ListN.{length};
+ghost use mathlib.Core.Path.{_≡_};
+ghost use Rattle.memory.specs.World.{Sized, world, seen};
+ghost use Rattle.memory.specs.Access.{Does, ask, put, outcome};
+ghost use Rattle.memory.specs.Words.{readWord, writeWord};
+
+// Marks an address as read, unless it has been stored to before.
+fn note_read(reads: &mut [u8], writes: &[u8], at: u16)
+    requires { ⌜ (length (now reads) ≡ 8192) × (length (now writes) ≡ 8192) ⌝ }
+    ensures { λ r. ⌜ now (reads .exit) ≡ seen at (world (now (reads .entry)) (now (reads .entry)) (now (writes .entry))) .reads ⌝ }
+{
+    if marks::is_marked(writes, at) {
+        return;
+    }
+    marks::mark(reads, at);
+}
+
+// The byte at an address.
+pub fn read(memory: &[u8], reads: &mut [u8], writes: &[u8], at: u16) -> u8
+    requires { ⌜ Sized (world (now memory) (now reads) (now writes)) ⌝ }
+    ensures { λ r. ⌜ Does (ask at) (world (now (memory .entry)) (now (reads .entry)) (now (writes .entry))) (outcome r (now (memory .entry)) (now (reads .exit)) (now (writes .entry))) ⌝ }
+{
+    note_read(reads, writes, at);
+    let k = at as usize;
+    memory[k]
+}
+
+// Stores a byte at an address.
+pub fn store(memory: &mut [u8], reads: &[u8], writes: &mut [u8], at: u16, byte: u8)
+    requires { ⌜ Sized (world (now memory) (now reads) (now writes)) ⌝ }
+    ensures { λ r. ⌜ Does (put at byte) (world (now (memory .entry)) (now (reads .entry)) (now (writes .entry))) (outcome tt (now (memory .exit)) (now (reads .entry)) (now (writes .exit))) ⌝ }
+{
+    marks::mark(writes, at);
+    let k = at as usize;
+    memory[k] = byte;
+}
+
+// The word at an address, low byte first.
+pub fn read_u16(memory: &[u8], reads: &mut [u8], writes: &[u8], at: u16) -> u16
+    requires { ⌜ Sized (world (now memory) (now reads) (now writes)) ⌝ }
+    ensures { λ r. ⌜ Does (readWord at) (world (now (memory .entry)) (now (reads .entry)) (now (writes .entry))) (outcome r (now (memory .entry)) (now (reads .exit)) (now (writes .entry))) ⌝ }
+{
+    let low = read(memory, reads, writes, at);
+    let high = read(memory, reads, writes, std::num::wrapping_add_u16(at, 1));
+    high as u16 * 256 + low as u16
+}
+
+// Stores a word at an address, low byte first.
+pub fn write_u16(memory: &mut [u8], reads: &[u8], writes: &mut [u8], at: u16, word: u16)
+    requires { ⌜ Sized (world (now memory) (now reads) (now writes)) ⌝ }
+    ensures { λ r. ⌜ Does (writeWord at word) (world (now (memory .entry)) (now (reads .entry)) (now (writes .entry))) (outcome tt (now (memory .exit)) (now (reads .entry)) (now (writes .exit))) ⌝ }
+{
+    store(memory, reads, writes, at, (word % 256) as u8);
+    store(
+        memory,
+        reads,
+        writes,
+        std::num::wrapping_add_u16(at, 1),
+        (word / 256) as u8,
+    );
+}

@@ -1,0 +1,76 @@
+-- Address modes: what each reads, in order, and the address it finds. Operand bytes stand at PC.
+use Prim.Native.Nat.{ℕ, _+_, _*_, _/_, _%_, _^_}
+use mathlib.Core.Bool.{Bool}
+use lib.Dec.{eqb}
+use Rattle.memory.specs.Access.{Access, then}
+use Rattle.memory.specs.Access.Access.{done, readAt}
+use Rattle.memory.specs.Words.{readWord}
+use Rattle.processor.specs.Record.{produced}
+use Rattle.processor.specs.declared.Processor.{Processor}
+use Rattle.processor.specs.declared.Produced.{Produced}
+use Rattle.modes.specs.Addresses.{directAt, absoluteAt, bitAddress, bitNumber, onward}
+use Rattle.modes.specs.declared.Addressed.{Addressed}
+use Rattle.modes.specs.declared.WordAddressed.{WordAddressed}
+use Rattle.modes.specs.declared.BitAddressed.{BitAddressed}
+use Rattle.modes.specs.declared.BitRead.{BitRead}
+
+abbrev pub addressed : Processor → ℕ → Addressed
+addressed cpu at = record { cpu = cpu; at = at }
+
+-- the byte at PC, with PC behind it
+unfoldable pub fetch : Processor → Access Produced
+fetch cpu = readAt (cpu .pc) (λ byte. done (produced (onward cpu) byte))
+
+-- the word at PC, low byte first, with PC behind it
+unfoldable pub fetchWord : Processor → Access Addressed
+fetchWord cpu = then (fetch cpu) (λ low. then (fetch (low .cpu)) (λ high. done (addressed (high .cpu) (high .byte * 256 + low .byte))))
+
+-- Immediate: the operand byte itself. Nothing is read yet.
+abbrev pub immediate : Processor → Addressed
+immediate cpu = addressed (onward cpu) (cpu .pc)
+
+-- d, d+X, d+Y: the operand byte plus an index, in the direct page.
+unfoldable pub direct : ℕ → Processor → Access Addressed
+direct index cpu = then (fetch cpu) (λ f. done (addressed (f .cpu) (directAt (cpu .psw) (f .byte) index)))
+
+-- A word in the direct page wraps inside it.
+unfoldable pub directWord : Processor → Access WordAddressed
+directWord cpu =
+    then (fetch cpu)
+    (λ f. done (record { cpu = f .cpu; low = directAt (cpu .psw) (f .byte) 0; high = directAt (cpu .psw) (f .byte) 1 }))
+
+-- (X) and (Y): the register in the direct page.
+abbrev pub indirect : ℕ → Processor → Addressed
+indirect register cpu = addressed cpu (directAt (cpu .psw) register 0)
+
+-- the pointer word at an address, plus an index: its second byte stands at the address plus one
+unfoldable pub pointed : ℕ → Addressed → Access Addressed
+pointed index d = then (readWord (d .at)) (λ word. done (addressed (d .cpu) (absoluteAt word index)))
+
+-- [d+X]: the pointer word at the indexed address. [d]+Y: the pointer word at the direct address, plus Y.
+unfoldable pub pointerX : Processor → Access Addressed
+pointerX cpu = then (direct (cpu .x) cpu) (pointed 0)
+
+unfoldable pub pointerY : Processor → Access Addressed
+pointerY cpu = then (direct 0 cpu) (pointed (cpu .y))
+
+-- !a, !a+X, !a+Y: the operand word plus an index.
+unfoldable pub absolute : ℕ → Processor → Access Addressed
+absolute index cpu = then (fetchWord cpu) (λ f. done (addressed (f .cpu) (absoluteAt (f .at) index)))
+
+-- [!a+X]: the word at a+X.
+unfoldable pub absolutePointer : Processor → Access Addressed
+absolutePointer cpu = then (absolute (cpu .x) cpu) (pointed 0)
+
+-- Mb: the address and the bit's number, both in the operand word.
+unfoldable pub bitOperand : Processor → Access BitAddressed
+bitOperand cpu =
+    then (fetchWord cpu) (λ f. done (record { cpu = f .cpu; at = bitAddress (f .at); bit = bitNumber (f .at) }))
+
+-- a bit of a byte
+abbrev pub bitOf : ℕ → ℕ → Bool
+bitOf bit byte = eqb (byte / 2 ^ bit % 2) 1
+
+-- the bit that Mb names
+unfoldable pub bitRead : Processor → Access BitRead
+bitRead cpu = then (bitOperand cpu) (λ m. readAt (m .at) (λ byte. done (record { cpu = m .cpu; bit = bitOf (m .bit) byte })))

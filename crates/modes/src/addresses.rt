@@ -1,0 +1,257 @@
+// Address modes.
+ghost use Prim.Native.Nat.{_≤_};
+ghost use mathlib.Core.Path.{_≡_};
+ghost use Rattle.memory.specs.World.{Sized, world};
+ghost use Rattle.memory.specs.Access.{Does, outcome};
+ghost use Rattle.modes.specs.Addresses.{directAt, onward};
+ghost use Rattle.modes.specs.Modes.{fetch, fetchWord, immediate, direct, directWord, indirect, pointed, pointerX, pointerY, absolute, absolutePointer, bitOperand, bitOf, bitRead};
+use crate::Addressed;
+use crate::BitAddressed;
+use crate::BitRead;
+use crate::WordAddressed;
+use processor::Processor;
+use processor::Produced;
+use psw::ProgramStatusWord;
+
+// The record with PC one byte further.
+pub fn past(mut cpu: Processor) -> Processor
+    ensures { λ r. ⌜ r ≡ onward cpu ⌝ }
+{
+    cpu.pc = std::num::wrapping_add_u16(cpu.pc, 1);
+    cpu
+}
+
+// An address of the direct page.
+fn page(psw: ProgramStatusWord, byte: u8, index: u8) -> u16
+    ensures { λ r. ⌜ r ≡ directAt psw byte index ⌝ }
+{
+    let low = std::num::wrapping_add_u8(byte, index) as u16;
+    if psw.p { 0x100 + low } else { low }
+}
+
+// The byte at PC, with PC behind it. Every opcode, operand and displacement byte is read here.
+pub fn fetch_u8(cpu: Processor, memory: &[u8], reads: &mut [u8], writes: &[u8]) -> Produced
+    requires { ⌜ Sized (world (now memory) (now reads) (now writes)) ⌝ }
+    ensures { λ r. ⌜ Does (fetch cpu) (world (now (memory .entry)) (now (reads .entry)) (now (writes .entry))) (outcome r (now (memory .entry)) (now (reads .exit)) (now (writes .entry))) ⌝ }
+{
+    let byte = memory::read(memory, reads, writes, cpu.pc);
+    Produced {
+        cpu: past(cpu),
+        byte,
+    }
+}
+
+// The word at PC, low byte first, with PC behind it.
+pub fn fetch_u16(cpu: Processor, memory: &[u8], reads: &mut [u8], writes: &[u8]) -> Addressed
+    requires { ⌜ Sized (world (now memory) (now reads) (now writes)) ⌝ }
+    ensures { λ r. ⌜ Does (fetchWord cpu) (world (now (memory .entry)) (now (reads .entry)) (now (writes .entry))) (outcome r (now (memory .entry)) (now (reads .exit)) (now (writes .entry))) ⌝ }
+{
+    let low = fetch_u8(cpu, memory, reads, writes);
+    let next = low.cpu;
+    let high = fetch_u8(next, memory, reads, writes);
+    let after = high.cpu;
+    let at = high.byte as u16 * 256 + low.byte as u16;
+    Addressed { cpu: after, at }
+}
+
+// Immediate: the address of the operand byte.
+pub fn imm(cpu: Processor) -> Addressed
+    ensures { λ r. ⌜ r ≡ immediate cpu ⌝ }
+{
+    Addressed {
+        cpu: past(cpu),
+        at: cpu.pc,
+    }
+}
+
+// d plus an index.
+pub fn d_off(cpu: Processor, memory: &[u8], reads: &mut [u8], writes: &[u8], index: u8) -> Addressed
+    requires { ⌜ Sized (world (now memory) (now reads) (now writes)) ⌝ }
+    ensures { λ r. ⌜ Does (direct index cpu) (world (now (memory .entry)) (now (reads .entry)) (now (writes .entry))) (outcome r (now (memory .entry)) (now (reads .exit)) (now (writes .entry))) ⌝ }
+{
+    let operand = fetch_u8(cpu, memory, reads, writes);
+    let next = operand.cpu;
+    let psw = cpu.psw;
+    Addressed {
+        cpu: next,
+        at: page(psw, operand.byte, index),
+    }
+}
+
+// d
+pub fn d(cpu: Processor, memory: &[u8], reads: &mut [u8], writes: &[u8]) -> Addressed
+    requires { ⌜ Sized (world (now memory) (now reads) (now writes)) ⌝ }
+    ensures { λ r. ⌜ Does (direct 0 cpu) (world (now (memory .entry)) (now (reads .entry)) (now (writes .entry))) (outcome r (now (memory .entry)) (now (reads .exit)) (now (writes .entry))) ⌝ }
+{
+    d_off(cpu, memory, reads, writes, 0)
+}
+
+// d+X
+pub fn dx(cpu: Processor, memory: &[u8], reads: &mut [u8], writes: &[u8]) -> Addressed
+    requires { ⌜ Sized (world (now memory) (now reads) (now writes)) ⌝ }
+    ensures { λ r. ⌜ Does (direct (cpu .x) cpu) (world (now (memory .entry)) (now (reads .entry)) (now (writes .entry))) (outcome r (now (memory .entry)) (now (reads .exit)) (now (writes .entry))) ⌝ }
+{
+    d_off(cpu, memory, reads, writes, cpu.x)
+}
+
+// d+Y
+pub fn dy(cpu: Processor, memory: &[u8], reads: &mut [u8], writes: &[u8]) -> Addressed
+    requires { ⌜ Sized (world (now memory) (now reads) (now writes)) ⌝ }
+    ensures { λ r. ⌜ Does (direct (cpu .y) cpu) (world (now (memory .entry)) (now (reads .entry)) (now (writes .entry))) (outcome r (now (memory .entry)) (now (reads .exit)) (now (writes .entry))) ⌝ }
+{
+    d_off(cpu, memory, reads, writes, cpu.y)
+}
+
+// d as a word: the addresses of its low and its high byte, both in the direct page.
+pub fn dw(cpu: Processor, memory: &[u8], reads: &mut [u8], writes: &[u8]) -> WordAddressed
+    requires { ⌜ Sized (world (now memory) (now reads) (now writes)) ⌝ }
+    ensures { λ r. ⌜ Does (directWord cpu) (world (now (memory .entry)) (now (reads .entry)) (now (writes .entry))) (outcome r (now (memory .entry)) (now (reads .exit)) (now (writes .entry))) ⌝ }
+{
+    let operand = fetch_u8(cpu, memory, reads, writes);
+    let next = operand.cpu;
+    let psw = cpu.psw;
+    WordAddressed {
+        cpu: next,
+        low: page(psw, operand.byte, 0),
+        high: page(psw, operand.byte, 1),
+    }
+}
+
+// (X)
+pub fn ix(cpu: Processor) -> Addressed
+    ensures { λ r. ⌜ r ≡ indirect (cpu .x) cpu ⌝ }
+{
+    let psw = cpu.psw;
+    Addressed {
+        cpu,
+        at: page(psw, cpu.x, 0),
+    }
+}
+
+// (Y)
+pub fn iy(cpu: Processor) -> Addressed
+    ensures { λ r. ⌜ r ≡ indirect (cpu .y) cpu ⌝ }
+{
+    let psw = cpu.psw;
+    Addressed {
+        cpu,
+        at: page(psw, cpu.y, 0),
+    }
+}
+
+// The pointer word at an address, plus an index.
+fn pointer(d: Addressed, memory: &[u8], reads: &mut [u8], writes: &[u8], index: u8) -> Addressed
+    requires { ⌜ Sized (world (now memory) (now reads) (now writes)) ⌝ }
+    ensures { λ r. ⌜ Does (pointed index d) (world (now (memory .entry)) (now (reads .entry)) (now (writes .entry))) (outcome r (now (memory .entry)) (now (reads .exit)) (now (writes .entry))) ⌝ }
+{
+    let word = memory::read_u16(memory, reads, writes, d.at);
+    let cpu = d.cpu;
+    Addressed {
+        cpu,
+        at: std::num::wrapping_add_u16(word, index as u16),
+    }
+}
+
+// [d+X]
+pub fn idx(cpu: Processor, memory: &[u8], reads: &mut [u8], writes: &[u8]) -> Addressed
+    requires { ⌜ Sized (world (now memory) (now reads) (now writes)) ⌝ }
+    ensures { λ r. ⌜ Does (pointerX cpu) (world (now (memory .entry)) (now (reads .entry)) (now (writes .entry))) (outcome r (now (memory .entry)) (now (reads .exit)) (now (writes .entry))) ⌝ }
+{
+    let at = dx(cpu, memory, reads, writes);
+    pointer(at, memory, reads, writes, 0)
+}
+
+// [d]+Y
+pub fn idy(cpu: Processor, memory: &[u8], reads: &mut [u8], writes: &[u8]) -> Addressed
+    requires { ⌜ Sized (world (now memory) (now reads) (now writes)) ⌝ }
+    ensures { λ r. ⌜ Does (pointerY cpu) (world (now (memory .entry)) (now (reads .entry)) (now (writes .entry))) (outcome r (now (memory .entry)) (now (reads .exit)) (now (writes .entry))) ⌝ }
+{
+    let at = d(cpu, memory, reads, writes);
+    pointer(at, memory, reads, writes, cpu.y)
+}
+
+// !a plus an index.
+pub fn abs_off(
+    cpu: Processor,
+    memory: &[u8],
+    reads: &mut [u8],
+    writes: &[u8],
+    index: u8,
+) -> Addressed
+    requires { ⌜ Sized (world (now memory) (now reads) (now writes)) ⌝ }
+    ensures { λ r. ⌜ Does (absolute index cpu) (world (now (memory .entry)) (now (reads .entry)) (now (writes .entry))) (outcome r (now (memory .entry)) (now (reads .exit)) (now (writes .entry))) ⌝ }
+{
+    let operand = fetch_u16(cpu, memory, reads, writes);
+    let next = operand.cpu;
+    Addressed {
+        cpu: next,
+        at: std::num::wrapping_add_u16(operand.at, index as u16),
+    }
+}
+
+// !a
+pub fn abs(cpu: Processor, memory: &[u8], reads: &mut [u8], writes: &[u8]) -> Addressed
+    requires { ⌜ Sized (world (now memory) (now reads) (now writes)) ⌝ }
+    ensures { λ r. ⌜ Does (absolute 0 cpu) (world (now (memory .entry)) (now (reads .entry)) (now (writes .entry))) (outcome r (now (memory .entry)) (now (reads .exit)) (now (writes .entry))) ⌝ }
+{
+    abs_off(cpu, memory, reads, writes, 0)
+}
+
+// !a+X
+pub fn absx(cpu: Processor, memory: &[u8], reads: &mut [u8], writes: &[u8]) -> Addressed
+    requires { ⌜ Sized (world (now memory) (now reads) (now writes)) ⌝ }
+    ensures { λ r. ⌜ Does (absolute (cpu .x) cpu) (world (now (memory .entry)) (now (reads .entry)) (now (writes .entry))) (outcome r (now (memory .entry)) (now (reads .exit)) (now (writes .entry))) ⌝ }
+{
+    abs_off(cpu, memory, reads, writes, cpu.x)
+}
+
+// !a+Y
+pub fn absy(cpu: Processor, memory: &[u8], reads: &mut [u8], writes: &[u8]) -> Addressed
+    requires { ⌜ Sized (world (now memory) (now reads) (now writes)) ⌝ }
+    ensures { λ r. ⌜ Does (absolute (cpu .y) cpu) (world (now (memory .entry)) (now (reads .entry)) (now (writes .entry))) (outcome r (now (memory .entry)) (now (reads .exit)) (now (writes .entry))) ⌝ }
+{
+    abs_off(cpu, memory, reads, writes, cpu.y)
+}
+
+// [!a+X]
+pub fn iax(cpu: Processor, memory: &[u8], reads: &mut [u8], writes: &[u8]) -> Addressed
+    requires { ⌜ Sized (world (now memory) (now reads) (now writes)) ⌝ }
+    ensures { λ r. ⌜ Does (absolutePointer cpu) (world (now (memory .entry)) (now (reads .entry)) (now (writes .entry))) (outcome r (now (memory .entry)) (now (reads .exit)) (now (writes .entry))) ⌝ }
+{
+    let at = absx(cpu, memory, reads, writes);
+    pointer(at, memory, reads, writes, 0)
+}
+
+// Mb: the address of a byte and the number of a bit.
+pub fn bit_operand(cpu: Processor, memory: &[u8], reads: &mut [u8], writes: &[u8]) -> BitAddressed
+    requires { ⌜ Sized (world (now memory) (now reads) (now writes)) ⌝ }
+    ensures { λ r. ⌜ Does (bitOperand cpu) (world (now (memory .entry)) (now (reads .entry)) (now (writes .entry))) (outcome r (now (memory .entry)) (now (reads .exit)) (now (writes .entry))) ⌝ }
+{
+    let operand = fetch_u16(cpu, memory, reads, writes);
+    let next = operand.cpu;
+    let at = operand.at % 8192;
+    let bit = (operand.at / 8192) as u8;
+    BitAddressed { cpu: next, at, bit }
+}
+
+// A bit of a byte.
+pub fn has_bit(byte: u8, bit: u8) -> bool
+    requires { ⌜ bit ≤ 7 ⌝ }
+    ensures { λ r. ⌜ r ≡ bitOf bit byte ⌝ }
+{
+    (byte >> bit) % 2 == 1
+}
+
+// The bit that Mb names.
+pub fn mb(cpu: Processor, memory: &[u8], reads: &mut [u8], writes: &[u8]) -> BitRead
+    requires { ⌜ Sized (world (now memory) (now reads) (now writes)) ⌝ }
+    ensures { λ r. ⌜ Does (bitRead cpu) (world (now (memory .entry)) (now (reads .entry)) (now (writes .entry))) (outcome r (now (memory .entry)) (now (reads .exit)) (now (writes .entry))) ⌝ }
+{
+    let operand = bit_operand(cpu, memory, reads, writes);
+    let next = operand.cpu;
+    let byte = memory::read(memory, reads, writes, operand.at);
+    BitRead {
+        cpu: next,
+        bit: has_bit(byte, operand.bit),
+    }
+}
