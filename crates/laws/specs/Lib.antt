@@ -1,3 +1,4 @@
 pub mod Below
 pub mod Once
 pub mod Table
+pub mod Dispatch

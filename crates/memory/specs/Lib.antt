@@ -1,3 +1,4 @@
 pub mod World
 pub mod Access
 pub mod Words
+pub mod Theorems

@@ -1,0 +1,5 @@
+pub mod Rows
+pub mod Gather
+pub mod Effects
+pub mod Step
+pub mod Cases
