@@ -1,0 +1,25 @@
+-- Two reads, the source's first.
+-- Assumes nothing.
+use borrow.Author.Needs.{needs}
+use Rattle.memory.proofs.Laws.{read-then, ends}
+use Rattle.instructions.specs.Gather.{bothLoaded}
+use Rattle.gather.proofs.several.load_both.Statement.{statement}
+use Rattle.gather.proofs.several.load_both.Tie as tie
+
+read-requires : tie.Need-read-requires
+read-requires c κs = search needs
+
+read-requires-2 : tie.Need-read-requires-2
+read-requires-2 c κs = search needs
+
+same-length : tie.Need-same-length
+same-length c = search needs
+
+returns : tie.Need-returns
+unfolding bothLoaded
+returns c =
+    read-then (c .before .before .before .before .before .before .before .read .ensures)
+    (read-then (c .before .before .before .read2 .ensures) ends)
+
+pub load-both-spec : {M : Type 1} → statement M
+load-both-spec = tie.close (tie.spec read-requires read-requires-2 same-length returns)

@@ -1,0 +1,20 @@
+-- One word is read, and is where to go.
+-- Assumes nothing.
+use borrow.Author.Needs.{needs}
+use Rattle.memory.proofs.Laws.{chain, ends}
+use Rattle.instructions.specs.Gather.{vector}
+use Rattle.gather.proofs.several.vector_at.Statement.{statement}
+use Rattle.gather.proofs.several.vector_at.Tie as tie
+
+read-u16-requires : tie.Need-read-u16-requires
+read-u16-requires c κs = search needs
+
+same-length : tie.Need-same-length
+same-length c = search needs
+
+returns : tie.Need-returns
+unfolding vector
+returns c = chain _ (c .before .before .read-u16 .ensures) ends
+
+pub vector-at-spec : {M : Type 1} → statement M
+vector-at-spec = tie.close (tie.spec read-u16-requires same-length returns)

@@ -1,0 +1,21 @@
+-- The mode finds the address; nothing is read there.
+-- Assumes nothing.
+use borrow.Author.Needs.{needs}
+use Rattle.memory.proofs.Laws.{chain, ends}
+use Rattle.gather.proofs.targets.to_pointer_x.Statement.{statement}
+use Rattle.gather.proofs.targets.to_pointer_x.Tie as tie
+
+idx-requires : tie.Need-idx-requires
+idx-requires c κs = search needs
+
+aim-requires : tie.Need-aim-requires
+aim-requires c κs = search needs
+
+same-length : tie.Need-same-length
+same-length c = search needs
+
+returns : tie.Need-returns
+returns c = chain _ (c .before .before .before .idx .ensures) (rw (c .aim .ensures) ends)
+
+pub to-pointer-x-spec : {M : Type 1} → statement M
+to-pointer-x-spec = tie.close (tie.spec idx-requires aim-requires same-length returns)
