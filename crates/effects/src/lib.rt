@@ -1,0 +1,88 @@
+// What an instruction makes of its operands, by its opcode.
+mod accumulator;
+mod bits;
+mod families;
+mod flags;
+mod jumps;
+mod kinds;
+mod memory_column;
+mod moves;
+mod words;
+
+ghost use mathlib.Core.Path.{_≡_};
+ghost use lib.Dec.{T};
+ghost use Rattle.instructions.specs.Rows.{rowOf};
+ghost use Rattle.instructions.specs.Rows.Operation.{call as calls, set1 as sets, clr1 as clears, bbs as branchesIfSet, bbc as branchesIfClear};
+ghost use Rattle.instructions.specs.Effects.{effectOf};
+ghost use Rattle.effects.specs.Columns.{inColumns};
+use instructions::Effect;
+use instructions::Operands;
+use instructions::Stores;
+
+// The effect of the opcode's row on its operands.
+pub fn effect_of(opcode: u8, o: Operands) -> Effect
+    ensures { λ r. ⌜ r ≡ effectOf (rowOf opcode .operation) opcode o ⌝ }
+{
+    match opcode & 0x1F {
+        opcodes::SET1_MASK => set1(opcode, o),
+        opcodes::CLR1_D => clr1(opcode, o),
+        opcodes::BBS_D_R_MASK => bbs(opcode, o),
+        opcodes::BBC_D_R_MASK => bbc(opcode, o),
+        opcodes::TCALL_MASK | 0x11 => call(o),
+        // no two neighbours in an arm: they would become a range
+        0x04 | 0x06 | 0x14 | 0x16 => families::accumulator(opcode / 32, o),
+        0x05 | 0x07 | 0x15 | 0x17 => families::accumulator(opcode / 32, o),
+        0x09 | 0x18 => families::pairs(opcode / 32, o),
+        0x19 => families::pairs(opcode / 32, o),
+        0x0B | 0x1B => families::shifts(opcode / 32, o),
+        0x0C => families::shifts(opcode / 32, o),
+        _ => by_column(opcode, o),
+    }
+}
+
+// The other columns of the table have an instruction of its own in each place.
+fn by_column(opcode: u8, o: Operands) -> Effect
+    requires { ⌜ T (inColumns opcode) ⌝ }
+    ensures { λ r. ⌜ r ≡ effectOf (rowOf opcode .operation) opcode o ⌝ }
+{
+    match opcode % 16 {
+        0 => flags::column_0(opcode, o),
+        8 | 12 => accumulator::column_8(opcode, o),
+        10 => words::column_a(opcode, o),
+        13 => moves::column_d(opcode, o),
+        14 => memory_column::column_e(opcode, o),
+        _ => jumps::column_f(opcode, o),
+    }
+}
+
+// TCALL
+fn call(o: Operands) -> Effect
+    ensures { λ r. ⌜ r ≡ effectOf calls 0 o ⌝ }
+{
+    let cpu = o.cpu;
+    kinds::storing(cpu, Stores::Call(o.at))
+}
+
+fn set1(opcode: u8, o: Operands) -> Effect
+    ensures { λ r. ⌜ r ≡ effectOf sets opcode o ⌝ }
+{
+    kinds::storing_byte(o, bits::with_bit(o.low, bits::bit_in(opcode), true))
+}
+
+fn clr1(opcode: u8, o: Operands) -> Effect
+    ensures { λ r. ⌜ r ≡ effectOf clears opcode o ⌝ }
+{
+    kinds::storing_byte(o, bits::with_bit(o.low, bits::bit_in(opcode), false))
+}
+
+fn bbs(opcode: u8, o: Operands) -> Effect
+    ensures { λ r. ⌜ r ≡ effectOf branchesIfSet opcode o ⌝ }
+{
+    kinds::branch_if(o, bits::has_bit(o.low, bits::bit_in(opcode)))
+}
+
+fn bbc(opcode: u8, o: Operands) -> Effect
+    ensures { λ r. ⌜ r ≡ effectOf branchesIfClear opcode o ⌝ }
+{
+    kinds::branch_if(o, !bits::has_bit(o.low, bits::bit_in(opcode)))
+}
