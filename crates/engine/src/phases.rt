@@ -1,0 +1,112 @@
+// The phases of an instruction: a transaction. What it reads comes first, then what it makes of that, then the stores, and last a
+// taken displacement.
+ghost use Rattle.memory.specs.World.{Sized, world};
+ghost use Rattle.memory.specs.Access.{Does, outcome};
+ghost use Rattle.instructions.specs.Step.{beginOf, commitOf, branchOf, finishOf, stepOf};
+use instructions::Begun;
+use instructions::Effect;
+use instructions::Stepped;
+use instructions::Stores;
+use processor::Processor;
+
+// The opcode, and what its instruction reads before it stores.
+fn begin(cpu: Processor, memory: &[u8], reads: &mut [u8], writes: &[u8]) -> Begun
+    requires { ⌜ Sized (world (now memory) (now reads) (now writes)) ⌝ }
+    ensures { λ r. ⌜ Does (beginOf cpu) (world (now (memory .entry)) (now (reads .entry)) (now (writes .entry))) (outcome r (now (memory .entry)) (now (reads .exit)) (now (writes .entry))) ⌝ }
+{
+    let fetched = modes::fetch_u8(cpu, memory, reads, writes);
+    let next = fetched.cpu;
+    let operands = gather::gather(next, memory, reads, writes, fetched.byte);
+    Begun {
+        opcode: fetched.byte,
+        operands,
+    }
+}
+
+// The stores, in order.
+fn commit(
+    cpu: Processor,
+    memory: &mut [u8],
+    reads: &[u8],
+    writes: &mut [u8],
+    stores: Stores,
+) -> Processor
+    requires { ⌜ Sized (world (now memory) (now reads) (now writes)) ⌝ }
+    ensures { λ r. ⌜ Does (commitOf stores cpu) (world (now (memory .entry)) (now (reads .entry)) (now (writes .entry))) (outcome r (now (memory .exit)) (now (reads .entry)) (now (writes .exit))) ⌝ }
+{
+    match stores {
+        Stores::Nothing => cpu,
+        Stores::Byte(at, byte) => {
+            memory::store(memory, reads, writes, at, byte);
+            cpu
+        }
+        Stores::Word(at, next, low, high) => {
+            memory::store(memory, reads, writes, at, low);
+            memory::store(memory, reads, writes, next, high);
+            cpu
+        }
+        Stores::Push(byte) => modes::push_to_stack_u8(cpu, memory, reads, writes, byte),
+        Stores::Call(target) => modes::call(cpu, memory, reads, writes, target),
+        Stores::Break(byte, target) => interrupt(cpu, memory, reads, writes, byte, target),
+    }
+}
+
+// BRK's stores: the return PC, then a status byte.
+fn interrupt(
+    cpu: Processor,
+    memory: &mut [u8],
+    reads: &[u8],
+    writes: &mut [u8],
+    byte: u8,
+    target: u16,
+) -> Processor
+    requires { ⌜ Sized (world (now memory) (now reads) (now writes)) ⌝ }
+    ensures { λ r. ⌜ Does (commitOf (Stores.Break byte target) cpu) (world (now (memory .entry)) (now (reads .entry)) (now (writes .entry))) (outcome r (now (memory .exit)) (now (reads .entry)) (now (writes .exit))) ⌝ }
+{
+    let pushed = modes::push_to_stack_u16(cpu, memory, reads, writes, cpu.pc);
+    let mut next = modes::push_to_stack_u8(pushed, memory, reads, writes, byte);
+    next.pc = target;
+    next
+}
+
+// A taken displacement.
+fn branch(cpu: Processor, memory: &[u8], reads: &mut [u8], writes: &[u8], taken: bool) -> Processor
+    requires { ⌜ Sized (world (now memory) (now reads) (now writes)) ⌝ }
+    ensures { λ r. ⌜ Does (branchOf taken cpu) (world (now (memory .entry)) (now (reads .entry)) (now (writes .entry))) (outcome r (now (memory .entry)) (now (reads .exit)) (now (writes .entry))) ⌝ }
+{
+    if taken {
+        return modes::branch_imm(cpu, memory, reads, writes);
+    }
+    cpu
+}
+
+// The stores, and then the displacement.
+fn finish(made: Effect, memory: &mut [u8], reads: &mut [u8], writes: &mut [u8]) -> Stepped
+    requires { ⌜ Sized (world (now memory) (now reads) (now writes)) ⌝ }
+    ensures { λ r. ⌜ Does (finishOf made) (world (now (memory .entry)) (now (reads .entry)) (now (writes .entry))) (outcome r (now (memory .exit)) (now (reads .exit)) (now (writes .exit))) ⌝ }
+{
+    let cpu = made.cpu;
+    let stores = made.stores;
+    let stored = commit(cpu, memory, reads, writes, stores);
+    let next = branch(stored, memory, reads, writes, made.taken);
+    Stepped {
+        cpu: next,
+        stop: made.stop,
+    }
+}
+
+// A whole instruction.
+pub fn instruction(
+    cpu: Processor,
+    memory: &mut [u8],
+    reads: &mut [u8],
+    writes: &mut [u8],
+) -> Stepped
+    requires { ⌜ Sized (world (now memory) (now reads) (now writes)) ⌝ }
+    ensures { λ r. ⌜ Does (stepOf cpu) (world (now (memory .entry)) (now (reads .entry)) (now (writes .entry))) (outcome r (now (memory .exit)) (now (reads .exit)) (now (writes .exit))) ⌝ }
+{
+    let begun = begin(cpu, memory, reads, writes);
+    let operands = begun.operands;
+    let made = effects::effect_of(begun.opcode, operands);
+    finish(made, memory, reads, writes)
+}
