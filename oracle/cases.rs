@@ -22,19 +22,11 @@ fn arithmetic(method: u8, registers: [u8; 7], l: u8, r: u8) -> Case {
     [method, a, x, y, sp, low, high, psw, l, r, 0, 0, 0, 0, 0, 0]
 }
 
-fn status(to: &mut dyn FnMut(Case)) {
+// A case for every byte: of the status word, 0, or of an opcode, 2.
+fn each_byte(kind: u8, to: &mut dyn FnMut(Case)) {
     for byte in 0..=255 {
         let mut case = [0; 16];
-        case[1] = byte;
-        to(case);
-    }
-}
-
-fn opcodes(to: &mut dyn FnMut(Case)) {
-    for byte in 0..=255 {
-        let mut case = [0; 16];
-        case[0] = 2;
-        case[1] = byte;
+        (case[0], case[1]) = (kind, byte);
         to(case);
     }
 }
@@ -119,8 +111,8 @@ fn random(count: usize, numbers: &mut Numbers, to: &mut dyn FnMut(Case)) {
 
 pub fn sample(to: &mut dyn FnMut(Case)) {
     let mut numbers = Numbers(1);
-    status(to);
-    opcodes(to);
+    each_byte(0, to);
+    each_byte(2, to);
     texts(20, &mut numbers, to);
     lists(1, &mut numbers, to);
     random(40, &mut numbers, to);
@@ -128,8 +120,8 @@ pub fn sample(to: &mut dyn FnMut(Case)) {
 
 pub fn all(to: &mut dyn FnMut(Case)) {
     let mut numbers = Numbers(2);
-    status(to);
-    opcodes(to);
+    each_byte(0, to);
+    each_byte(2, to);
     texts(10_000, &mut numbers, to);
     lists(3, &mut numbers, to);
     single_modes(to);

@@ -1,4 +1,5 @@
-"""Where the Rust crate and document 01 part, as docs/DIFFERENCES.md lists it: for a case, the difference's label and our answer.
+"""Where the Rust crate and document 01 part, as far as the oracle's cases go: for a case, the label of its row in
+docs/DIFFERENCES.md and our answer.
 
 A case that no rule names must have the same answer on both sides; a case that a rule names must differ, in just this way.
 """
