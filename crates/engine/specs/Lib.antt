@@ -1,2 +1,4 @@
 pub mod Entry
 pub mod Theorems
+pub mod Provenance
+pub mod Inside

@@ -1,19 +1,36 @@
--- What holds of every step.
+-- What holds of every step and of every run.
 -- Assumes nothing.
-use mathlib.Core.Path.{_≡_, refl}
+use Prim.Native.Nat.{ℕ, _≤_}
+use mathlib.Core.Path.{_≡_, ap, sym}
 use Rattle.memory.specs.World.{World, Sized}
 use Rattle.memory.specs.Access.{perform}
-use Rattle.memory.specs.Theorems.{Kept, marks-stay}
+use Rattle.memory.specs.Theorems.{Kept, marks-stay, kept-itself, kept-trans}
 use Rattle.memory.proofs.Laws.{perform-then}
 use Rattle.processor.specs.declared.Processor.{Processor}
-use Rattle.instructions.specs.Step.{stepOf}
-use Rattle.engine.specs.Entry.{countedStep}
+use Rattle.runs.specs.Trace.{taken}
+use Rattle.runs.proofs.Run as runs
+use Rattle.engine.specs.Entry.{answered, countedStep, runOf, stepAnswer, runAnswer}
 
 -- An accepted step answers that one step was taken.
 pub one-step : (cpu : Processor) (w : World) → perform (countedStep cpu) w .result .steps ≡ 1
 unfolding countedStep perform
 one-step cpu w = rw perform-then
 
--- It leaves memory and maps their lengths, and clears no mark.
+-- A step answers what a run of budget 1 answers, refused or not, and leaves the same.
+pub step-is-run-of-one : (cpu : Processor) (w : World) → stepAnswer cpu w ≡ runAnswer 1 cpu w
+step-is-run-of-one cpu w = ap (answered cpu w) (sym (runs.run-one (taken countedStep) cpu w))
+
+-- A run takes no more steps than its budget, and all of it where it answers stop 0.
+pub within-budget : (budget : ℕ) (cpu : Processor) (w : World) → runOf budget cpu w .result .steps ≤ budget
+within-budget = runs.within-budget (taken countedStep) one-step
+
+pub budget-spent : (budget : ℕ) (cpu : Processor) (w : World) → runOf budget cpu w .result .stop ≡ 0 → runOf budget cpu w .result .steps ≡ budget
+budget-spent = runs.budget-spent (taken countedStep) one-step
+
+-- A step leaves memory and maps their lengths, and clears no mark; so does a run.
 pub step-keeps : (cpu : Processor) (w : World) → Sized w → Kept w (perform (countedStep cpu) w .left)
 step-keeps cpu w s = marks-stay (countedStep cpu) w s
+
+pub run-keeps : (budget : ℕ) (cpu : Processor) (w : World) → Sized w → Kept w (runOf budget cpu w .left)
+run-keeps =
+    runs.run-keeps (taken countedStep) (λ v w. Sized v → Kept v w) kept-itself (λ u v w f g s. kept-trans (f s) (g (f s .sized))) step-keeps

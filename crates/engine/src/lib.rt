@@ -1,10 +1,10 @@
-// The engine: one step of the processor on lent memory and maps.
+// The engine: a step and a run of the processor on lent memory and maps.
 mod phases;
 
 ghost use mathlib.Core.Path.{_≡_};
 ghost use Rattle.memory.specs.World.{Sized, world};
-ghost use Rattle.memory.specs.Access.{Does, outcome};
-ghost use Rattle.engine.specs.Entry.{ran, countedStep, stepAnswer};
+ghost use Rattle.memory.specs.Access.{outcome, perform};
+ghost use Rattle.engine.specs.Entry.{ran, accepted, refusalOf, countedStep, runOf, stepAnswer, runAnswer};
 use processor::Processor;
 
 // What a step or a run answers. Refused: `refusal` is its number, the record is as given, the other numbers are 0.
@@ -26,10 +26,26 @@ fn refused(refusal: u8, cpu: Processor) -> Ran
     }
 }
 
+// The first test that the lengths of memory and maps do not pass, or 0.
+fn refusal_of(memory: &[u8], reads: &[u8], writes: &[u8]) -> u8
+    ensures { λ r. ⌜ r ≡ refusalOf (world (now (memory .entry)) (now (reads .entry)) (now (writes .entry))) ⌝ }
+{
+    if memory.len() != 65536 {
+        return 1;
+    }
+    if reads.len() != 8192 {
+        return 2;
+    }
+    if writes.len() != 8192 {
+        return 2;
+    }
+    0
+}
+
 // A step on memory and maps whose lengths are known.
 fn take_step(cpu: Processor, memory: &mut [u8], reads: &mut [u8], writes: &mut [u8]) -> Ran
     requires { ⌜ Sized (world (now memory) (now reads) (now writes)) ⌝ }
-    ensures { λ r. ⌜ Does (countedStep cpu) (world (now (memory .entry)) (now (reads .entry)) (now (writes .entry))) (outcome r (now (memory .exit)) (now (reads .exit)) (now (writes .exit))) ⌝ }
+    ensures { λ r. ⌜ outcome r (now (memory .exit)) (now (reads .exit)) (now (writes .exit)) ≡ accepted (perform (countedStep cpu) (world (now (memory .entry)) (now (reads .entry)) (now (writes .entry)))) ⌝ }
 {
     let stepped = phases::instruction(cpu, memory, reads, writes);
     let next = stepped.cpu;
@@ -41,18 +57,58 @@ fn take_step(cpu: Processor, memory: &mut [u8], reads: &mut [u8], writes: &mut [
     }
 }
 
+// Steps until the budget is spent or one of them stops, on memory and maps whose lengths are known.
+fn take_steps(
+    cpu: Processor,
+    memory: &mut [u8],
+    reads: &mut [u8],
+    writes: &mut [u8],
+    budget: u32,
+) -> Ran
+    requires { ⌜ Sized (world (now memory) (now reads) (now writes)) ⌝ }
+    ensures { λ r. ⌜ outcome r (now (memory .exit)) (now (reads .exit)) (now (writes .exit)) ≡ accepted (runOf budget cpu (world (now (memory .entry)) (now (reads .entry)) (now (writes .entry)))) ⌝ }
+{
+    let mut next = cpu;
+    let mut steps: u32 = 0;
+    let mut stop: u8 = 0;
+    while steps < budget && stop == 0 {
+        let stepped = phases::instruction(next, memory, reads, writes);
+        next = stepped.cpu;
+        stop = stepped.stop;
+        steps = steps + 1;
+    }
+    Ran {
+        refusal: 0,
+        cpu: next,
+        steps,
+        stop,
+    }
+}
+
 // One step. Refusals: 1 memory is not 65,536 bytes, 2 a map is not 8,192 bytes.
 pub fn step(cpu: Processor, memory: &mut [u8], reads: &mut [u8], writes: &mut [u8]) -> Ran
     ensures { λ r. ⌜ outcome r (now (memory .exit)) (now (reads .exit)) (now (writes .exit)) ≡ stepAnswer cpu (world (now (memory .entry)) (now (reads .entry)) (now (writes .entry))) ⌝ }
 {
-    if memory.len() != 65536 {
-        return refused(1, cpu);
-    }
-    if reads.len() != 8192 {
-        return refused(2, cpu);
-    }
-    if writes.len() != 8192 {
-        return refused(2, cpu);
+    let refusal = refusal_of(memory, reads, writes);
+    if refusal != 0 {
+        return refused(refusal, cpu);
     }
     take_step(cpu, memory, reads, writes)
+}
+
+// A run: steps until the budget is spent (stop 0), SLEEP was executed (1) or STOP was executed (2). Refusals as for a step.
+pub fn run(
+    cpu: Processor,
+    memory: &mut [u8],
+    reads: &mut [u8],
+    writes: &mut [u8],
+    budget: u32,
+) -> Ran
+    ensures { λ r. ⌜ outcome r (now (memory .exit)) (now (reads .exit)) (now (writes .exit)) ≡ runAnswer budget cpu (world (now (memory .entry)) (now (reads .entry)) (now (writes .entry))) ⌝ }
+{
+    let refusal = refusal_of(memory, reads, writes);
+    if refusal != 0 {
+        return refused(refusal, cpu);
+    }
+    take_steps(cpu, memory, reads, writes, budget)
 }

@@ -3,3 +3,4 @@ pub mod Gather
 pub mod Effects
 pub mod Step
 pub mod Cases
+pub mod Inside

@@ -14,9 +14,9 @@ perform-then (readAt a p) k w = perform-then (p (byteAt a w)) k (seen a w)
 perform-then (storeAt a byte p) k w = perform-then p k (kept a byte w)
 
 -- one part after another; `_` will do for `k` at a use
-pub chain : {R S : Type 0} {p : Access S} (k : S → Access R) {w : World} {o : Outcome S} {q : Outcome R}
+pub chain : {R S : Type 0} {p : Access S} (k : S → Access R) {w : World} {o : Outcome World S} {q : Outcome World R}
     → Does p w o → Does (k (o .result)) (o .left) q → Does (then p k) w q
-chain {p = p} k {w} e f = record { is = f .is ∙ ap (λ (x : Outcome _). perform (k (x .result)) (x .left)) (e .is) ∙ sym (perform-then p k w) }
+chain {p = p} k {w} e f = record { is = f .is ∙ ap (λ (x : Outcome World _). perform (k (x .result)) (x .left)) (e .is) ∙ sym (perform-then p k w) }
 
 -- nothing more to do
 pub ends : {R : Type 0} {x : R} {w : World} → Does (done x) w (record { result = x; left = w })
@@ -24,16 +24,16 @@ unfolding perform
 ends = record { is = refl }
 
 -- a read first, a store first
-pub read-then : {R : Type 0} {a : ℕ} {k : ℕ → Access R} {w : World} {o : Outcome ℕ} {q : Outcome R}
+pub read-then : {R : Type 0} {a : ℕ} {k : ℕ → Access R} {w : World} {o : Outcome World ℕ} {q : Outcome World R}
     → Does (ask a) w o → Does (k (o .result)) (o .left) q → Does (readAt a k) w q
 unfolding perform
-read-then {k = k} e f = record { is = f .is ∙ ap (λ (x : Outcome ℕ). perform (k (x .result)) (x .left)) (e .is) }
+read-then {k = k} e f = record { is = f .is ∙ ap (λ (x : Outcome World ℕ). perform (k (x .result)) (x .left)) (e .is) }
 
-pub put-then : {R : Type 0} {a byte : ℕ} {p : Access R} {w : World} {o : Outcome Unit} {q : Outcome R}
+pub put-then : {R : Type 0} {a byte : ℕ} {p : Access R} {w : World} {o : Outcome World Unit} {q : Outcome World R}
     → Does (put a byte) w o → Does p (o .left) q → Does (storeAt a byte p) w q
 unfolding perform
-put-then {p = p} e f = record { is = f .is ∙ ap (λ (x : Outcome Unit). perform p (x .left)) (e .is) }
+put-then {p = p} e f = record { is = f .is ∙ ap (λ (x : Outcome World Unit). perform p (x .left)) (e .is) }
 
 -- Two outcomes that meet one contract coincide.
-pub does-once : {R : Type 0} {p : Access R} {w : World} {o q : Outcome R} → Does p w o → Does p w q → o ≡ q
+pub does-once : {R : Type 0} {p : Access R} {w : World} {o q : Outcome World R} → Does p w o → Does p w q → o ≡ q
 does-once e f = e .is ∙ sym (f .is)

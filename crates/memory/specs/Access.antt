@@ -23,20 +23,20 @@ ask a = readAt a done
 abbrev pub put : ℕ → ℕ → Access Unit
 put a byte = storeAt a byte (done tt)
 
--- a result, and what is left of the world
-pub record Outcome (R : Type 0) : Type 0 where
+-- a result, and what is left of a world
+pub record Outcome (W R : Type 0) : Type 0 where
   pub result : R
-  pub left : World
+  pub left : W
 
-abbrev pub outcome : {R : Type 0} → R → List ℕ → List ℕ → List ℕ → Outcome R
+abbrev pub outcome : {R : Type 0} → R → List ℕ → List ℕ → List ℕ → Outcome World R
 outcome x memory reads writes = record { result = x; left = world memory reads writes }
 
 -- performing it on a world
-unfoldable pub perform : {R : Type 0} → Access R → World → Outcome R
+unfoldable pub perform : {R : Type 0} → Access R → World → Outcome World R
 perform (done x) w = record { result = x; left = w }
 perform (readAt a p) w = perform (p (byteAt a w)) (seen a w)
 perform (storeAt a byte p) w = perform p (kept a byte w)
 
 -- Performing `p` on `w` gives `o`: the one form of every contract on memory.
-pub record Does {R : Type 0} (p : Access R) (w : World) (o : Outcome R) : Type 0 where
+pub record Does {R : Type 0} (p : Access R) (w : World) (o : Outcome World R) : Type 0 where
   pub is : o ≡ perform p w

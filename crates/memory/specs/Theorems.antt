@@ -48,10 +48,16 @@ later r s k = record {
   writes = record { marks = λ a h t. k .writes .marks a h (s .marks a h t) };
 }
 
+pub kept-itself : (w : World) → Sized w → Kept w w
+kept-itself w s = record { sized = s; reads = itself (w .reads); writes = itself (w .writes) }
+
+pub kept-trans : {u v w : World} → Kept u v → Kept v w → Kept u w
+kept-trans f g = later (f .reads) (f .writes) g
+
 -- Performing any accesses on memory and maps of the right lengths leaves the lengths, and every mark of either map.
 pub marks-stay : {R : Type 0} (p : Access R) (w : World) → Sized w → Kept w (perform p w .left)
 unfolding perform
-marks-stay (done x) w s = record { sized = s; reads = itself (w .reads); writes = itself (w .writes) }
+marks-stay (done x) w s = kept-itself w s
 marks-stay (readAt a p) w s =
     let r = read-keeps (isMarked (w .writes) a) (w .reads) a (s .reads) in
     later (r .1) (itself (w .writes))

@@ -12,7 +12,7 @@ use Rattle.modes.specs.Modes.{fetch, fetchWord, bitOperand}
 use Rattle.modes.specs.declared.BitAddressed.{BitAddressed}
 
 -- The bit that Mb names is one of eight, where memory holds bytes: a slice's `shared-slice-known .given` says that it does.
-pub one-of-eight : (cpu : Processor) {w : World} {o : Outcome BitAddressed}
+pub one-of-eight : (cpu : Processor) {w : World} {o : Outcome World BitAddressed}
     → Does (bitOperand cpu) w o → ((i : ℕ) → Fits w8 (byteAt i w)) → o .result .bit ≤ 7
 unfolding perform then fetch fetchWord bitOperand
 one-of-eight cpu does bytes = rw (does .is) (omega (arith, bytes (cpu .pc), bytes (nextOf (cpu .pc))))

@@ -8,6 +8,7 @@ mod sums;
 mod words;
 
 pub use sums::difference;
+pub use words::word;
 ghost use Prim.Native.Nat.{_≤_};
 ghost use mathlib.Core.Path.{_≡_};
 ghost use Rattle.processor.specs.Record.{started, nzOf, nzWordOf, wordOf};

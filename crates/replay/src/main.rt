@@ -57,11 +57,7 @@ fn registers(case: [u8; 16]) -> Processor {
         x: case[2],
         y: case[3],
         sp: case[4],
-        pc: word(case[5], case[6]),
+        pc: processor::word(case[5], case[6]),
         psw: ProgramStatusWord::from_byte(case[7]),
     }
-}
-
-fn word(low: u8, high: u8) -> u16 {
-    high as u16 * 256 + low as u16
 }

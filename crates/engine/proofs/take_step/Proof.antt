@@ -1,8 +1,9 @@
 -- The instruction, counted.
 -- Assumes nothing.
+use mathlib.Core.Path.{ap}
+use Rattle.engine.specs.Entry.{accepted}
+use Rattle.engine.proofs.Laws.{counted}
 use borrow.Author.Needs.{needs}
-use Rattle.memory.proofs.Laws.{chain, ends}
-use Rattle.engine.specs.Entry.{countedStep}
 use Rattle.engine.proofs.take_step.Statement.{statement}
 use Rattle.engine.proofs.take_step.Tie as tie
 
@@ -19,8 +20,7 @@ same-length-3 : tie.Need-same-length-3
 same-length-3 c = search needs
 
 returns : tie.Need-returns
-unfolding countedStep
-returns c = chain _ (c .before .before .before .before .before .before .before .instruction .ensures) ends
+returns c = ap accepted (counted _ _ (c .before .before .before .before .before .before .before .instruction .ensures))
 
 pub take-step-spec : {M : Type 1} → statement M
 take-step-spec =

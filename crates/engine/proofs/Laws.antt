@@ -1,0 +1,44 @@
+-- What a refusal number, 0 or not, says of the lengths and of the answer; and the step as the definition counts it.
+-- Assumes nothing.
+use Prim.Native.Nat.{ℕ}
+use mathlib.Core.Path.{_≡_, refl, ap, sym, _∙_}
+use mathlib.Core.Bool.{Bool, true, false, cond}
+use native.Mathlib.Omega.{arith}
+use lib.Dec.{eqb}
+use lib.ListN.{length}
+use borrow.Author.Tests.{eq-eqb, ne-eqb, eqb-true}
+use Rattle.memory.specs.World.{World, Sized}
+use Rattle.memory.specs.Access.{Outcome, perform, Does}
+use Rattle.memory.proofs.Laws.{chain, ends}
+use Rattle.processor.specs.declared.Processor.{Processor}
+use Rattle.instructions.specs.Step.{stepOf}
+use Rattle.instructions.specs.declared.Stepped.{Stepped}
+use Rattle.runs.specs.Run.{Progress, progress}
+use Rattle.engine.specs.Entry.{ran, accepted, answered, refusalOf, countedStep}
+use Rattle.engine.specs.declared.Ran.{Ran}
+
+-- Where nothing is refused, the lengths are right.
+pub sized : (w : World) {r : ℕ} → r ≡ refusalOf w → r ≡ 0 → Sized w
+unfolding refusalOf
+sized w e z =
+    go (eqb (length (w .memory)) 65536) (eqb (length (w .reads)) 8192) (eqb (length (w .writes)) 8192) refl refl refl (sym e ∙ z)
+  where
+    go : (a b c : Bool) → eqb (length (w .memory)) 65536 ≡ a → eqb (length (w .reads)) 8192 ≡ b → eqb (length (w .writes)) 8192 ≡ c
+        → _≡_ {A = ℕ} (cond a (cond b (cond c 0 2) 2) 1) 0 → Sized w
+    go true true true m r s z = record { memory = eqb-true _ _ m; reads = eqb-true _ _ r; writes = eqb-true _ _ s }
+    go true true false m r s z = absurd (omega (arith, z))
+    go true false c m r s z = absurd (omega (arith, z))
+    go false b c m r s z = absurd (omega (arith, z))
+
+module _ (cpu : Processor) (w : World) (o : Outcome World (Progress Processor)) {r : ℕ} (e : r ≡ refusalOf w) where
+  pub refuses : {a : Ran} → (r ≡ 0 → ⊥) → a ≡ ran r cpu 0 0 → record { result = a; left = w } ≡ answered cpu w o
+  refuses n a = rw (a, ← e, ne-eqb _ _ n)
+
+  pub accepts : {q : Outcome World Ran} → r ≡ 0 → q ≡ accepted o → q ≡ answered cpu w o
+  accepts z a = rw (a, ← e, eq-eqb _ _ z)
+
+-- a step that the code took, counted
+pub counted : (cpu : Processor) (w : World) {o : Outcome World Stepped} → Does (stepOf cpu) w o
+    → record { result = progress (o .result .cpu) 1 (o .result .stop); left = o .left } ≡ perform (countedStep cpu) w
+unfolding countedStep
+counted cpu w d = chain _ d ends .is

@@ -1,0 +1,6 @@
+pub mod Within
+pub mod Parts
+pub mod Gathered
+pub mod Bounds
+pub mod Made
+pub mod Inside

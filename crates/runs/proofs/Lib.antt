@@ -1,0 +1,5 @@
+pub mod Run
+pub mod Trace
+pub mod Exact
+pub mod Agree
+pub mod Inside

@@ -1,0 +1,4 @@
+pub mod Run
+pub mod Trace
+pub mod Marks
+pub mod Same

@@ -1,0 +1,44 @@
+-- The accesses that a run makes, in order.
+use Prim.Native.Nat.{ℕ, zero, suc, _<_}
+use mathlib.Core.List.{List, [], _∷_, _++_}
+use Rattle.memory.specs.World.{World, byteAt, seen, kept}
+use Rattle.memory.specs.Access.{Access, Outcome, perform}
+use Rattle.memory.specs.Access.Access.{done, readAt, storeAt}
+use Rattle.runs.specs.Run.{Progress}
+
+-- a read of an address, a store of a byte at an address
+pub data Event : Type 0 where
+  read : ℕ → Event
+  store : ℕ → ℕ → Event
+
+-- accesses that are all below 65,536
+abbrev pub addressOf : Event → ℕ
+addressOf (read a) = a
+addressOf (store a byte) = a
+
+abbrev pub InMemory : List Event → Type 0
+InMemory [] = Unit
+InMemory (e ∷ t) = (addressOf e < 65536) × InMemory t
+
+-- what performing makes of them
+unfoldable pub events : {R : Type 0} → Access R → World → List Event
+events (done x) w = []
+events (readAt a p) w = read a ∷ events (p (byteAt a w)) (seen a w)
+events (storeAt a byte p) w = store a byte ∷ events p (kept a byte w)
+
+-- nothing follows a stop
+abbrev pub unlessStopped : ℕ → List Event → List Event
+unlessStopped zero t = t
+unlessStopped (suc why) t = []
+
+module _ {Regs : Type 0} (step : Regs → Access (Progress Regs)) where
+  -- a step by its accesses
+  abbrev pub taken : Regs → World → Outcome World (Progress Regs)
+  taken r w = perform (step r) w
+
+  -- the accesses of each step in turn
+  unfoldable pub trace : ℕ → Regs → World → List Event
+  trace zero r w = []
+  trace (suc budget) r w =
+      let o = taken r w in
+      events (step r) w ++ unlessStopped (o .result .stop) (trace budget (o .result .regs) (o .left))
