@@ -1,13 +1,13 @@
 // What an instruction makes of its operands, by its opcode.
-mod accumulator;
 mod bits;
+mod column_0;
+mod column_8;
+mod column_a;
+mod column_d;
+mod column_e;
+mod column_f;
 mod families;
-mod flags;
-mod jumps;
 mod kinds;
-mod memory_column;
-mod moves;
-mod words;
 
 ghost use mathlib.Core.Path.{_≡_};
 ghost use lib.Dec.{T};
@@ -40,18 +40,18 @@ pub fn effect_of(opcode: u8, o: Operands) -> Effect
     }
 }
 
-// The other columns of the table have an instruction of its own in each place.
+// The other columns of the table, by the opcode's low digit, have an instruction of its own in each place.
 fn by_column(opcode: u8, o: Operands) -> Effect
     requires { ⌜ T (inColumns opcode) ⌝ }
     ensures { λ r. ⌜ r ≡ effectOf (rowOf opcode .operation) opcode o ⌝ }
 {
     match opcode % 16 {
-        0 => flags::column_0(opcode, o),
-        8 | 12 => accumulator::column_8(opcode, o),
-        10 => words::column_a(opcode, o),
-        13 => moves::column_d(opcode, o),
-        14 => memory_column::column_e(opcode, o),
-        _ => jumps::column_f(opcode, o),
+        0 => column_0::column_0(opcode, o),
+        8 | 12 => column_8::column_8(opcode, o),
+        10 => column_a::column_a(opcode, o),
+        13 => column_d::column_d(opcode, o),
+        14 => column_e::column_e(opcode, o),
+        _ => column_f::column_f(opcode, o),
     }
 }
 

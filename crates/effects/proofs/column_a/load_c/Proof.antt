@@ -1,0 +1,19 @@
+-- C becomes the bit that Mb names.
+-- Assumes nothing.
+use borrow.Author.Needs.{needs}
+use Rattle.instructions.specs.Effects.{effectOf}
+use Rattle.effects.proofs.column_a.load_c.Statement.{statement}
+use Rattle.effects.proofs.column_a.load_c.Tie as tie
+
+bit-read-requires : tie.Need-bit-read-requires
+bit-read-requires c κs = search needs
+
+set-c-requires : tie.Need-set-c-requires
+set-c-requires c κs = search needs
+
+returns : tie.Need-returns
+unfolding effectOf
+returns c = rw (c .set-c .ensures, c .before .bit-read .ensures)
+
+pub load-c-spec : {M : Type 1} → statement M
+load-c-spec = tie.close (tie.spec bit-read-requires set-c-requires returns)

@@ -1,0 +1,19 @@
+-- The definition's byte, with the bit that Mb names as C is, is stored.
+-- Assumes nothing.
+use borrow.Author.Needs.{needs}
+use Rattle.instructions.specs.Effects.{effectOf}
+use Rattle.effects.proofs.column_a.store_c.Statement.{statement}
+use Rattle.effects.proofs.column_a.store_c.Tie as tie
+
+with-bit-requires : tie.Need-with-bit-requires
+with-bit-requires c κs = search needs
+
+storing-byte-requires : tie.Need-storing-byte-requires
+storing-byte-requires c κs = search needs
+
+returns : tie.Need-returns
+unfolding effectOf
+returns c = rw (c .storing-byte .ensures, c .before .with-bit .ensures)
+
+pub store-c-spec : {M : Type 1} → statement M
+store-c-spec = tie.close (tie.spec with-bit-requires storing-byte-requires returns)
