@@ -3,4 +3,5 @@ pub mod Gather
 pub mod Effects
 pub mod Step
 pub mod Cases
+pub mod Order
 pub mod Inside
