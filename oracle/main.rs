@@ -1,7 +1,9 @@
 // The Rust crate as the judge: its answers to a list of cases, one line a case.
 //
-//   oracle cases sample|all   writes cases, 16 bytes each, to standard output
-//   oracle answers            reads cases from standard input and writes a line for each
+//   oracle cases sample|all               writes cases, 16 bytes each, to standard output
+//   oracle answers                        reads cases from standard input and writes a line for each
+//   oracle step-cases OPCODES FUNCTIONS   writes cases on memory, 64 bytes each: so many of each opcode, and of each function
+//   oracle step-answers                   reads cases on memory and writes a line for each
 //
 // The crate's files are compiled as they stand, from the folder that SPC700_SRC names. Its private methods are reached from a
 // module below theirs, so that no function is edited. oracle/README.md says what the bytes of a case mean.
@@ -15,6 +17,7 @@ mod opcodes {
 }
 mod processor {
     include!(concat!(env!("SPC700_SRC"), "/processor.rs"));
+    pub mod on_memory;
     pub mod reach;
 }
 mod program_status_word {
@@ -26,6 +29,8 @@ pub use program_status_word::ProgramStatusWord;
 
 mod cases;
 mod modes;
+mod step_cases;
+mod steps;
 
 use std::io::{Read, Write};
 
@@ -61,6 +66,15 @@ fn registers(case: &Case) -> Processor {
     }
 }
 
+// Reads cases of N bytes to the end, and writes the answer to each.
+fn answers<const N: usize>(out: &mut impl Write, mut answer: impl FnMut(&[u8; N]) -> String) {
+    let mut input = std::io::BufReader::new(std::io::stdin());
+    let mut case = [0; N];
+    while input.read_exact(&mut case).is_ok() {
+        writeln!(out, "{}", answer(&case)).unwrap();
+    }
+}
+
 fn main() {
     std::panic::set_hook(Box::new(|_| {}));
     let args: Vec<String> = std::env::args().collect();
@@ -69,15 +83,17 @@ fn main() {
     match words[..] {
         ["cases", "sample"] => cases::sample(&mut |case| out.write_all(&case).unwrap()),
         ["cases", "all"] => cases::all(&mut |case| out.write_all(&case).unwrap()),
-        ["answers"] => {
-            let mut input = std::io::BufReader::new(std::io::stdin());
-            let mut case = [0; 16];
-            while input.read_exact(&mut case).is_ok() {
-                writeln!(out, "{}", answer(&case)).unwrap();
-            }
+        ["answers"] => answers(&mut out, answer),
+        ["step-cases", opcodes, functions] => {
+            let counts = [opcodes, functions].map(|word| word.parse().expect("a count"));
+            step_cases::states(counts[0], counts[1], &mut |case| out.write_all(&case).unwrap())
+        }
+        ["step-answers"] => {
+            let mut bus = steps::Bus::new();
+            answers(&mut out, |case| bus.answer(case))
         }
         _ => {
-            eprintln!("usage: oracle cases sample | oracle cases all | oracle answers");
+            eprintln!("usage: oracle cases sample|all, answers, step-cases OPCODES FUNCTIONS, step-answers");
             std::process::exit(2);
         }
     }

@@ -1,0 +1,53 @@
+-- The loop passes each address once; memory keeps its length.
+-- Assumes nothing.
+use Prim.Native.Nat.{_≤_, _-_}
+use borrow.Author.Needs.{needs}
+use mathlib.Core.Path.{_≡_}
+use lib.ListN.{length}
+use Rattle.replay_steps.proofs.case.fill.Statement.{statement}
+use Rattle.replay_steps.proofs.case.fill.Tie as tie
+
+abbrev Inv-loop : tie.InvT-loop
+Inv-loop memory₀ address₀ memory address = (address ≤ 65536) × (length memory ≡ length memory₀)
+
+abbrev μ-loop : tie.MeasureT-loop
+μ-loop memory₀ address₀ memory address = 65536 - address
+
+loop-holds : tie.Need-loop-holds Inv-loop μ-loop
+loop-holds c = search needs
+
+background-requires : tie.Need-background-requires Inv-loop μ-loop
+background-requires c κs = search needs
+
+set-requires : tie.Need-set-requires Inv-loop μ-loop
+set-requires c κs = search needs
+
+add-address : tie.Need-add-address Inv-loop μ-loop
+add-address c = search needs
+
+loop-less : tie.Need-loop-less Inv-loop μ-loop
+loop-less c = search needs
+
+loop-again : tie.Need-loop-again Inv-loop μ-loop
+loop-again c = search needs
+
+same-length : tie.Need-same-length Inv-loop μ-loop
+same-length c = search needs
+
+returns : tie.Need-returns Inv-loop μ-loop
+returns c = search needs
+
+pub fill-spec : {M : Type 1} → statement M
+fill-spec =
+    tie.close
+    (tie.spec
+    Inv-loop
+    μ-loop
+    loop-holds
+    background-requires
+    set-requires
+    add-address
+    loop-less
+    loop-again
+    same-length
+    returns)
