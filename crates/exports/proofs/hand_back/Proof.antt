@@ -1,0 +1,55 @@
+-- Refused, neither the bytes nor the number depend on the record; else the bytes are the record's.
+-- Assumes nothing.
+use Prim.Native.Nat.{ℕ}
+use mathlib.Core.Path.{_≡_}
+use mathlib.Core.List.{List}
+use borrow.Author.Needs.{needs}
+use borrow.Author.Tests.{eq-eqb, ne-eqb}
+use Rattle.memory.specs.World.{World}
+use Rattle.state.specs.Registers.{bytesOf}
+use Rattle.engine.specs.declared.Ran.{Ran}
+use Rattle.exports.specs.Calls.{packed, called, handedBack}
+use Rattle.exports.proofs.hand_back.Statement.{statement}
+use Rattle.exports.proofs.hand_back.Tie as tie
+
+module _ (registers : List ℕ) (ran : Ran) where
+  refused : {r : ℕ} → (ran .refusal ≡ 0 → ⊥) → r ≡ packed (ran .refusal) 0 0
+      → (w : World) → called r registers w ≡ handedBack registers w (record { result = ran; left = w })
+  refused n e w = rw (e, ne-eqb _ _ n)
+
+  accepted : {r : ℕ} {after : List ℕ} → ran .refusal ≡ 0 → after ≡ bytesOf (ran .cpu) → r ≡ packed 0 (ran .stop) (ran .steps)
+      → (w : World) → called r after w ≡ handedBack registers w (record { result = ran; left = w })
+  accepted z a e w = rw (e, a, eq-eqb _ _ z)
+
+packed-requires : tie.Need-packed-requires
+packed-requires c κs = search needs
+
+returns : tie.Need-returns
+returns c = refused _ (c .before .before .before .args .ran) (c .before .if1 .taken) (c .packed .ensures)
+
+set-registers-requires : tie.Need-set-registers-requires
+set-registers-requires c κs = search needs
+
+packed-requires-2 : tie.Need-packed-requires-2
+packed-requires-2 c κs = search needs
+
+same-length : tie.Need-same-length
+same-length c = search needs
+
+returns-2 : tie.Need-returns-2
+returns-2 c =
+    accepted _ (c .before .before .before .before .before .before .before .before .args .ran)
+    (c .before .before .before .before .before .before .if1 .left)
+    (c .before .before .before .set-registers .ensures)
+    (c .packed2 .ensures)
+
+pub hand-back-spec : {M : Type 1} → statement M
+hand-back-spec =
+    tie.close
+    (tie.spec
+    packed-requires
+    returns
+    set-registers-requires
+    packed-requires-2
+    same-length
+    returns-2)

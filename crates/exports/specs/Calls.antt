@@ -1,0 +1,55 @@
+-- The calls that other programs make: what each answers, as one number, and what it leaves in the bytes it was lent.
+use Prim.Native.Nat.{ℕ, _+_, _*_, _^_}
+use mathlib.Core.Bool.{cond}
+use mathlib.Core.List.{List}
+use lib.Dec.{eqb}
+use lib.ListN.{length}
+use Rattle.text.specs.declared.Written.{Written}
+use Rattle.marks.specs.declared.Counted.{Counted}
+use Rattle.memory.specs.World.{World}
+use Rattle.memory.specs.Access.{Outcome}
+use Rattle.processor.specs.declared.Processor.{Processor}
+use Rattle.state.specs.Registers.{registersOf, bytesOf}
+use Rattle.engine.specs.Entry.{stepAnswer, runAnswer}
+use Rattle.engine.specs.declared.Ran.{Ran}
+
+-- The refusal in bits 40 and up, the stop in bits 32 to 39, the number (steps, count, length) in the low 32.
+abbrev pub packed : ℕ → ℕ → ℕ → ℕ
+packed refusal stop number = refusal * 2 ^ 40 + stop * 2 ^ 32 + number
+
+-- the answer, the registers' bytes, memory and maps
+pub record Called : Type 0 where
+  pub answer : ℕ
+  pub registers : List ℕ
+  pub left : World
+
+abbrev pub called : ℕ → List ℕ → World → Called
+called answer registers left = record { answer = answer; registers = registers; left = left }
+
+-- Refused, nothing changes. Else the registers come back in their bytes.
+abbrev pub handedBack : List ℕ → World → Outcome World Ran → Called
+handedBack registers w o =
+    cond (eqb (o .result .refusal) 0)
+    (called (packed 0 (o .result .stop) (o .result .steps)) (bytesOf (o .result .cpu)) (o .left))
+    (called (packed (o .result .refusal) 0 0) registers w)
+
+-- Refusal 6 exactly if the registers are not seven bytes, before all others.
+abbrev pub onBytes : (Processor → World → Outcome World Ran) → List ℕ → World → Called
+onBytes answer registers w =
+    cond (eqb (length registers) 7)
+    (handedBack registers w (answer (registersOf registers) w))
+    (called (packed 6 0 0) registers w)
+
+-- what the engine's step and run answer, at the bytes
+abbrev pub stepCall : List ℕ → World → Called
+stepCall = onBytes stepAnswer
+
+abbrev pub runCall : ℕ → List ℕ → World → Called
+runCall budget = onBytes (runAnswer budget)
+
+-- a count, and a text
+abbrev pub countNumber : Counted → ℕ
+countNumber c = packed (c .refusal) 0 (c .count)
+
+abbrev pub textNumber : Written → ℕ
+textNumber t = packed (t .refusal) 0 (t .length)

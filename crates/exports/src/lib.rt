@@ -1,0 +1,89 @@
+// The library that other programs link: C's view of the engine, the counts of marks and the listing. include/spc700.h documents it.
+// Every call takes its slices as pointer and length, has no condition, and answers one number.
+ghost use mathlib.Core.Path.{_≡_};
+ghost use lib.ListN.{length};
+ghost use Rattle.text.specs.Given.{answerTo, bufferAfter};
+ghost use Rattle.marks.specs.Maps.{countOf};
+ghost use Rattle.memory.specs.World.{World, world};
+ghost use Rattle.listing.specs.Instruction.{listedOf};
+ghost use Rattle.exports.specs.Calls.{packed, called, handedBack, stepCall, runCall, countNumber, textNumber};
+use engine::Ran;
+
+// The one number that a call answers.
+fn packed(refusal: u8, stop: u8, number: u32) -> u64
+    ensures { λ r. ⌜ r ≡ packed refusal stop number ⌝ }
+{
+    refusal as u64 * 1099511627776 + stop as u64 * 4294967296 + number as u64
+}
+
+// Hands back what the engine answered: the number, and, unless the engine refused, the record in its seven bytes. Memory and maps are not
+// lent to it, so its contract holds whatever they are.
+fn hand_back(registers: &mut [u8], ran: Ran) -> u64
+    requires { ⌜ length (now registers) ≡ 7 ⌝ }
+    ensures { λ r. ⌜ ((w : World) → called r (now (registers .exit)) w ≡ handedBack (now (registers .entry)) w (record { result = ran; left = w })) ⌝ }
+{
+    let refusal = ran.refusal;
+    if refusal != 0 {
+        return packed(refusal, 0, 0);
+    }
+    let cpu = ran.cpu;
+    state::set_registers(registers, cpu);
+    packed(0, ran.stop, ran.steps)
+}
+
+// One step. Refusals: 6 registers that are not seven bytes, 1 memory that is not 65,536 bytes, 2 a map that is not 8,192 bytes.
+#[no_mangle]
+pub extern "C" fn spc700_step(
+    registers: &mut [u8],
+    memory: &mut [u8],
+    reads: &mut [u8],
+    writes: &mut [u8],
+) -> u64
+    ensures { λ r. ⌜ called r (now (registers .exit)) (world (now (memory .exit)) (now (reads .exit)) (now (writes .exit))) ≡ stepCall (now (registers .entry)) (world (now (memory .entry)) (now (reads .entry)) (now (writes .entry))) ⌝ }
+{
+    if registers.len() != 7 {
+        return packed(6, 0, 0);
+    }
+    let cpu = state::registers(registers);
+    let ran = engine::step(cpu, memory, reads, writes);
+    hand_back(registers, ran)
+}
+
+// A run of at most `budget` steps. Refusals as for a step.
+#[no_mangle]
+pub extern "C" fn spc700_run(
+    registers: &mut [u8],
+    budget: u32,
+    memory: &mut [u8],
+    reads: &mut [u8],
+    writes: &mut [u8],
+) -> u64
+    ensures { λ r. ⌜ called r (now (registers .exit)) (world (now (memory .exit)) (now (reads .exit)) (now (writes .exit))) ≡ runCall budget (now (registers .entry)) (world (now (memory .entry)) (now (reads .entry)) (now (writes .entry))) ⌝ }
+{
+    if registers.len() != 7 {
+        return packed(6, 0, 0);
+    }
+    let cpu = state::registers(registers);
+    let ran = engine::run(cpu, memory, reads, writes, budget);
+    hand_back(registers, ran)
+}
+
+// How many addresses a map marks. Refusal 2: it is not 8,192 bytes.
+#[no_mangle]
+pub extern "C" fn spc700_count(map: &[u8]) -> u64
+    ensures { λ r. ⌜ r ≡ countNumber (countOf (now (map .entry))) ⌝ }
+{
+    let counted = marks::count(map);
+    packed(counted.refusal, 0, counted.count)
+}
+
+// One instruction's text from its bytes. Refusals: 4 fewer bytes than the instruction has, 3 a buffer that is too short.
+#[no_mangle]
+pub extern "C" fn spc700_text(code: &[u8], text: &mut [u8]) -> u64
+    ensures { λ r. ⌜ r ≡ textNumber (answerTo (listedOf (now (code .entry))) (now (text .entry))) ⌝ }
+    ensures { λ r. ⌜ now (text .exit) ≡ bufferAfter (listedOf (now (code .entry))) (now (text .entry)) ⌝ }
+{
+    let written = listing::instruction(code, text);
+    // a text has at most 80 bytes
+    packed(written.refusal, 0, written.length as u32)
+}

@@ -1,0 +1,105 @@
+/* The SPC700 for C and C++: one step, a run, a count of marks, one instruction's text.
+ *
+ * The functions are those of the proved crate `exports`. `rt staticlib exports` writes them to target/staticlib/libexports.a, for
+ * programs on x86-64 Linux:
+ *
+ *     cc -I include program.c target/staticlib/libexports.a
+ *
+ * Of other libraries they use C's memcpy alone. They allocate nothing and keep nothing between two calls.
+ *
+ * What a call is lent. Every region of bytes is two arguments: a pointer to its first byte, then its length in bytes.
+ *   - The pointer is never NULL, also where the length is 0, and as many bytes as the length says belong to the caller.
+ *   - No two regions of one call overlap.
+ *   - Nothing else reads or writes them while the call runs.
+ * These three are the caller's to keep: the proofs rest on them. Lengths need no care: a wrong one is refused.
+ *
+ * What a call answers: one number, which spc700_refusal, spc700_stop and spc700_number below take apart.
+ *   bits 0 to 31    the number: steps, marks or bytes of text
+ *   bits 32 to 39   the stop of a step or a run; else 0
+ *   bits 40 to 47   the refusal: 0, or why the call was refused
+ *   bits 48 to 63   0
+ * A refused call changes no byte that it was lent, and its stop and number are 0.
+ *
+ * In Rust, declare the functions in an `extern "C"` block: uint8_t * is *mut u8, const uint8_t * is *const u8, size_t is usize.
+ */
+#ifndef SPC700_H
+#define SPC700_H
+
+#include <stddef.h>
+#include <stdint.h>
+
+#ifdef __cplusplus
+extern "C" {
+#endif
+
+/* How many bytes registers, memory and each map have. */
+#define SPC700_REGISTERS 7
+#define SPC700_MEMORY 65536
+#define SPC700_MAP 8192
+
+/* Refusals. Where a call could be refused for several reasons, SPC700_WRONG_REGISTERS comes first, then SPC700_WRONG_MEMORY, then
+ * SPC700_WRONG_MAP; of a text SPC700_CUT comes before SPC700_NO_ROOM. */
+#define SPC700_WRONG_MEMORY 1    /* memory is not 65,536 bytes */
+#define SPC700_WRONG_MAP 2       /* a map is not 8,192 bytes */
+#define SPC700_NO_ROOM 3         /* the text is longer than its buffer */
+#define SPC700_CUT 4             /* fewer bytes than the instruction has */
+#define SPC700_WRONG_REGISTERS 6 /* the registers are not 7 bytes */
+
+/* Why a run stopped. A step has the same stops: 0 where its instruction was neither of the two. */
+#define SPC700_STOP_BUDGET 0 /* as many steps as the budget allows were taken */
+#define SPC700_STOP_SLEEP 1  /* SLEEP was executed */
+#define SPC700_STOP_STOP 2   /* STOP was executed */
+
+/* Takes one step.
+ *
+ * registers   A X Y SP PC-low PC-high PSW, one byte each; PSW is N V P B H I Z C from bit 7 to bit 0. The step leaves them as they
+ *             are after it.
+ * memory      the byte of each address. The step stores in it.
+ * reads       a map: address k is bit k mod 8 of byte k div 8. The step marks each address that it reads while `writes` lacks it.
+ * writes      a map, too. The step marks each address that it stores to. No call clears a mark: start with maps of zeros.
+ *
+ * Answers the stop, and 1 as the number: the steps taken. SLEEP and STOP count as steps; a later call goes on behind them.
+ * Refusals: 6, 1, 2. */
+uint64_t spc700_step(
+    uint8_t *registers, size_t registers_length,
+    uint8_t *memory, size_t memory_length,
+    uint8_t *reads, size_t reads_length,
+    uint8_t *writes, size_t writes_length);
+
+/* Takes steps until `budget` of them are taken (stop 0), SLEEP was executed (stop 1) or STOP was executed (stop 2), whichever comes
+ * first; SLEEP or STOP as the last step of the budget is stop 1 or 2. The regions are those of spc700_step.
+ *
+ * Answers the stop, and the steps taken as the number. With budget 0 nothing changes.
+ * Refusals: 6, 1, 2. */
+uint64_t spc700_run(
+    uint8_t *registers, size_t registers_length,
+    uint32_t budget,
+    uint8_t *memory, size_t memory_length,
+    uint8_t *reads, size_t reads_length,
+    uint8_t *writes, size_t writes_length);
+
+/* Answers how many addresses a map marks, 0 to 65,536, as the number. Changes nothing.
+ * Refusal: 2. */
+uint64_t spc700_count(const uint8_t *map, size_t map_length);
+
+/* Writes the text of one instruction, as `MOV A, #$7F`, into a buffer; no newline and no zero byte follow it.
+ *
+ * code   the instruction's opcode and the bytes behind it. Bytes past the instruction are ignored.
+ * text   the buffer. The bytes behind the text stay as they are. 80 bytes are room enough for every instruction.
+ *
+ * Answers the text's length as the number.
+ * Refusals: 4, 3. */
+uint64_t spc700_text(
+    const uint8_t *code, size_t code_length,
+    uint8_t *text, size_t text_length);
+
+#ifdef __cplusplus
+}
+#endif
+
+/* An answer's parts. */
+static inline uint8_t spc700_refusal(uint64_t answer) { return (uint8_t)(answer >> 40); }
+static inline uint8_t spc700_stop(uint64_t answer) { return (uint8_t)(answer >> 32); }
+static inline uint32_t spc700_number(uint64_t answer) { return (uint32_t)answer; }
+
+#endif

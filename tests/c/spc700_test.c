@@ -1,0 +1,197 @@
+/* The static library as a C program sees it: every function, every refusal, and that a refused call changes nothing. Prints a line for
+ * each check and a last line that counts them; exit status 0 only if all hold. tests/exports compiles and runs it. */
+#include "spc700.h"
+
+/* Declared, not included: a compiler for x86-64 may come without the headers of a C library for it. */
+int printf(const char *format, ...);
+
+/* All that a call is lent. Each region has a byte more than it needs, so that too long a region can be lent, too. */
+struct lent {
+    uint8_t registers[SPC700_REGISTERS + 1];
+    uint8_t memory[SPC700_MEMORY + 1];
+    uint8_t reads[SPC700_MAP + 1];
+    uint8_t writes[SPC700_MAP + 1];
+};
+
+/* The lengths that a call is told. */
+struct lengths {
+    size_t registers, memory, reads, writes;
+};
+
+static const struct lengths RIGHT = {SPC700_REGISTERS, SPC700_MEMORY, SPC700_MAP, SPC700_MAP};
+static struct lent now, before;
+static int checks, failures;
+
+static void check(const char *what, int holds)
+{
+    checks++;
+    failures += !holds;
+    printf("exports: %s: %s\n", holds ? "ok" : "FAILED", what);
+}
+
+static int same(const void *a, const void *b, size_t length)
+{
+    const uint8_t *x = a, *y = b;
+    for (size_t i = 0; i < length; i++)
+        if (x[i] != y[i])
+            return 0;
+    return 1;
+}
+
+static void fill(void *to, uint8_t byte, size_t length)
+{
+    for (size_t i = 0; i < length; i++)
+        ((uint8_t *)to)[i] = byte;
+}
+
+static int unchanged(void) { return same(&now, &before, sizeof now); }
+
+static uint64_t answer(uint64_t refusal, uint64_t stop, uint64_t number) { return refusal << 40 | stop << 32 | number; }
+
+/* A=7D X=Y=0 SP=EF PC=0200 PSW=01, clear maps, and memory zero but for three bytes of code at 0200. */
+static void start(uint8_t first, uint8_t second, uint8_t third)
+{
+    static const uint8_t registers[SPC700_REGISTERS] = {0x7D, 0, 0, 0xEF, 0x00, 0x02, 0x01};
+    fill(&now, 0, sizeof now);
+    for (size_t i = 0; i < sizeof registers; i++)
+        now.registers[i] = registers[i];
+    now.memory[0x200] = first;
+    now.memory[0x201] = second;
+    now.memory[0x202] = third;
+    before = now;
+}
+
+static uint64_t step(struct lengths n)
+{
+    return spc700_step(now.registers, n.registers, now.memory, n.memory, now.reads, n.reads, now.writes, n.writes);
+}
+
+static uint64_t run(struct lengths n, uint32_t budget)
+{
+    return spc700_run(now.registers, n.registers, budget, now.memory, n.memory, now.reads, n.reads, now.writes, n.writes);
+}
+
+static uint32_t marks(const uint8_t *map) { return spc700_number(spc700_count(map, SPC700_MAP)); }
+
+static int registers_are(uint8_t a, uint8_t pc_low, uint8_t psw)
+{
+    const uint8_t expected[SPC700_REGISTERS] = {a, 0, 0, 0xEF, pc_low, 0x02, psw};
+    return same(now.registers, expected, sizeof expected);
+}
+
+/* ADC A,#05 and SLEEP with a budget of 9, the session that the client's document prints; and other budgets. */
+static void runs(void)
+{
+    start(0x88, 0x05, 0xEF);
+    uint64_t got = run(RIGHT, 9);
+    check("run: not refused", spc700_refusal(got) == 0);
+    check("run: stop 1", spc700_stop(got) == SPC700_STOP_SLEEP);
+    check("run: 2 steps", spc700_number(got) == 2);
+    check("run: nothing else in the answer", got == answer(0, 1, 2));
+    check("run: A=83 PC=0203 PSW=C8, the others as they were", registers_are(0x83, 0x03, 0xC8));
+    check("run: 3 addresses read, 0200 to 0202", marks(now.reads) == 3 && now.reads[0x40] == 0x07);
+    check("run: none written", marks(now.writes) == 0);
+    check("run: memory as it was", same(now.memory, before.memory, sizeof now.memory));
+
+    start(0x88, 0x05, 0xEF);
+    check("run: budget 1 is one step, stop 0", run(RIGHT, 1) == answer(0, 0, 1) && registers_are(0x83, 0x02, 0xC8));
+    check("run: the next call goes on", run(RIGHT, 1) == answer(0, 1, 1) && registers_are(0x83, 0x03, 0xC8));
+
+    start(0x88, 0x05, 0xEF);
+    check("run: budget 0 does nothing", run(RIGHT, 0) == 0 && unchanged());
+
+    start(0x2F, 0xFE, 0);
+    check("run: a budget of more than 16 bits", run(RIGHT, 70000) == answer(0, 0, 70000));
+}
+
+static void steps(void)
+{
+    start(0x88, 0x05, 0xEF);
+    check("step: 1 step, stop 0", step(RIGHT) == answer(0, 0, 1));
+    check("step: A=83 PC=0202 PSW=C8", registers_are(0x83, 0x02, 0xC8));
+    check("step: 2 addresses read", marks(now.reads) == 2 && now.reads[0x40] == 0x03);
+    check("step: SLEEP is stop 1", step(RIGHT) == answer(0, 1, 1) && registers_are(0x83, 0x03, 0xC8));
+
+    start(0xFF, 0, 0);
+    check("step: STOP is stop 2", step(RIGHT) == answer(0, 2, 1));
+
+    start(0xC4, 0x10, 0);
+    check("step: MOV $10,A is one step", step(RIGHT) == answer(0, 0, 1) && registers_are(0x7D, 0x02, 0x01));
+    check("step: it stores A", now.memory[0x10] == 0x7D);
+    check("step: it marks 0010 as written, and nothing else", marks(now.writes) == 1 && now.writes[2] == 0x01);
+}
+
+/* A step and a run that are told these lengths are refused with this number, and change nothing. */
+static void refuses(const char *what, struct lengths n, uint64_t refusal)
+{
+    start(0xC4, 0x10, 0xEF);
+    check(what, step(n) == answer(refusal, 0, 0) && run(n, 9) == answer(refusal, 0, 0) && unchanged());
+}
+
+static void refusals(void)
+{
+    refuses("refused 6: no registers", (struct lengths){0, 65536, 8192, 8192}, SPC700_WRONG_REGISTERS);
+    refuses("refused 6: 6 bytes of registers", (struct lengths){6, 65536, 8192, 8192}, SPC700_WRONG_REGISTERS);
+    refuses("refused 6: 8 bytes of registers", (struct lengths){8, 65536, 8192, 8192}, SPC700_WRONG_REGISTERS);
+    refuses("refused 1: no memory", (struct lengths){7, 0, 8192, 8192}, SPC700_WRONG_MEMORY);
+    refuses("refused 1: 65,535 bytes of memory", (struct lengths){7, 65535, 8192, 8192}, SPC700_WRONG_MEMORY);
+    refuses("refused 1: 65,537 bytes of memory", (struct lengths){7, 65537, 8192, 8192}, SPC700_WRONG_MEMORY);
+    refuses("refused 2: 8,191 bytes of the read map", (struct lengths){7, 65536, 8191, 8192}, SPC700_WRONG_MAP);
+    refuses("refused 2: 8,193 bytes of the read map", (struct lengths){7, 65536, 8193, 8192}, SPC700_WRONG_MAP);
+    refuses("refused 2: 8,191 bytes of the written map", (struct lengths){7, 65536, 8192, 8191}, SPC700_WRONG_MAP);
+    refuses("refused 2: 8,193 bytes of the written map", (struct lengths){7, 65536, 8192, 8193}, SPC700_WRONG_MAP);
+    refuses("refused 6 before 1", (struct lengths){6, 65535, 8192, 8192}, SPC700_WRONG_REGISTERS);
+    refuses("refused 6 before 2", (struct lengths){6, 65536, 8191, 8191}, SPC700_WRONG_REGISTERS);
+    refuses("refused 1 before 2", (struct lengths){7, 65535, 8191, 8191}, SPC700_WRONG_MEMORY);
+    refuses("refused 6 before 1 and 2", (struct lengths){8, 65537, 8193, 8193}, SPC700_WRONG_REGISTERS);
+}
+
+static void counts(void)
+{
+    start(0, 0, 0);
+    check("count: a clear map has no mark", spc700_count(now.reads, SPC700_MAP) == 0);
+    fill(now.reads, 0xFF, sizeof now.reads);
+    check("count: a full map has 65,536", spc700_count(now.reads, SPC700_MAP) == answer(0, 0, 65536));
+    check("count: refused 2: 8,191 bytes", spc700_count(now.reads, SPC700_MAP - 1) == answer(SPC700_WRONG_MAP, 0, 0));
+    check("count: refused 2: 8,193 bytes", spc700_count(now.reads, SPC700_MAP + 1) == answer(SPC700_WRONG_MAP, 0, 0));
+    check("count: refused 2: no bytes", spc700_count(now.reads, 0) == answer(SPC700_WRONG_MAP, 0, 0));
+}
+
+/* spc700_text on a buffer of 80 bytes of A5, told another length, answers so and leaves these first bytes and A5 behind them. */
+static void text(const char *what, const uint8_t *code, size_t length, size_t room, uint64_t expected, const char *said)
+{
+    uint8_t buffer[80];
+    fill(buffer, 0xA5, sizeof buffer);
+    int holds = spc700_text(code, length, buffer, room) == expected;
+    size_t at = 0;
+    for (; said[at]; at++)
+        holds &= buffer[at] == (uint8_t)said[at];
+    for (; at < sizeof buffer; at++)
+        holds &= buffer[at] == 0xA5;
+    check(what, holds);
+}
+
+static void texts(void)
+{
+    static const uint8_t code[] = {0xE8, 0x7F, 0xFF}, longer[] = {0x8F, 0x10, 0x20};
+    text("text: an instruction, and nothing behind it", code, 2, 80, answer(0, 0, 11), "MOV A, #$7F");
+    text("text: spare bytes are ignored", code, 3, 80, answer(0, 0, 11), "MOV A, #$7F");
+    text("text: three bytes", longer, 3, 80, answer(0, 0, 13), "MOV $20, #$10");
+    text("text: just room enough", code, 2, 11, answer(0, 0, 11), "MOV A, #$7F");
+    text("text: refused 3: a byte too little room", code, 2, 10, answer(SPC700_NO_ROOM, 0, 0), "");
+    text("text: refused 3: no room", code, 2, 0, answer(SPC700_NO_ROOM, 0, 0), "");
+    text("text: refused 4: a byte too few", code, 1, 80, answer(SPC700_CUT, 0, 0), "");
+    text("text: refused 4: no bytes", code, 0, 80, answer(SPC700_CUT, 0, 0), "");
+    text("text: refused 4 before 3", code, 1, 0, answer(SPC700_CUT, 0, 0), "");
+}
+
+int main(void)
+{
+    runs();
+    steps();
+    refusals();
+    counts();
+    texts();
+    printf("exports: %d of %d checks hold\n", checks - failures, checks);
+    return failures > 0;
+}
