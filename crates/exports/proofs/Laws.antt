@@ -1,8 +1,7 @@
 -- What a call answers at the bytes: refusal 6 where the registers are not seven, and else what the engine's answer, handed back, says.
--- And that a contract on a call has one outcome.
 -- Assumes nothing.
 use Prim.Native.Nat.{ℕ}
-use mathlib.Core.Path.{_≡_, refl, ap, sym, _∙_}
+use mathlib.Core.Path.{_≡_, refl}
 use mathlib.Core.Bool.{Bool, true, false, cond}
 use mathlib.Core.List.{List}
 use native.Mathlib.Decide.{ℕ-discrete}
@@ -16,7 +15,7 @@ use Rattle.state.specs.Registers.{registersOf}
 use Rattle.runs.specs.Run.{Progress}
 use Rattle.engine.specs.Entry.{refusalOf, accepted, refused, answered}
 use Rattle.engine.specs.declared.Ran.{Ran}
-use Rattle.exports.specs.Calls.{packed, Called, called, handedBack, onBytes}
+use Rattle.exports.specs.Calls.{packed, called, handedBack, onBytes}
 
 -- The engine leaves memory and maps as they were wherever it refuses.
 left-alone : (cpu : Processor) (w : World) (o : Outcome World (Progress Processor)) {q : Outcome World Ran}
@@ -52,9 +51,3 @@ module _ (registers : List ℕ) (w : World) where
       → called r after (q .left) ≡ onBytes (λ cpu w. answered cpu w (done cpu w)) registers w
   seven done {cpu} {r} {after} {q} s c e back =
       rw (eq-eqb _ _ s, ← c, ← e) (handed q back (left-alone cpu w (done cpu w) e))
-
--- two outcomes that meet one contract coincide: the answer, the registers, memory and maps
-pub called-once : {r s : ℕ} {a b : List ℕ} {w v : World} {c : Called} → called r a w ≡ c → called s b v ≡ c → (r ≡ s) × (a ≡ b) × (w ≡ v)
-called-once e f =
-    let g = e ∙ sym f in
-    (ap (λ (x : Called). x .answer) g, ap (λ (x : Called). x .registers) g, ap (λ (x : Called). x .left) g)

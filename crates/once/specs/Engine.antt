@@ -1,0 +1,12 @@
+-- A step and a run have one outcome each, refused or not.
+-- Assumes nothing.
+use mathlib.Core.List.{[], _∷_}
+use Rattle.engine.proofs as engine
+use Rattle.once.specs.Law.{One, second, third, fourth}
+use Rattle.once.specs.Forms.{runs}
+
+pub step-once : One engine.step.Reads.Post (λ κ e. second e ∷ third e ∷ fourth e ∷ [])
+step-once = record { same = runs }
+
+pub run-once : One engine.run.Reads.Post (λ κ e. second e ∷ third e ∷ fourth e ∷ [])
+run-once = record { same = runs }

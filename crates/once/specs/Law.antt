@@ -1,0 +1,41 @@
+-- A contract that decides its call: whatever the arguments are, the result and the lent memory can come out in one way only.
+-- Assumes nothing.
+use Prim.Native.Nat.{ℕ}
+use mathlib.Core.Path.{_≡_}
+use mathlib.Core.List.{List, []}
+use denote.Ref.{RefT, now}
+
+abbrev pub nothing : List ℕ
+nothing = []
+
+-- `post` is a function's contract as the toolchain reads it off the source, less what it asks of the arguments: it speaks of the
+-- call's lifetimes, its arguments, its result and its parameters at exit. `lent` is the content at exit of all that the function
+-- may write to.
+module _ {K : Type 0} {A R E : K → Type 0} where
+  -- Two outcomes that meet the contract for the same arguments coincide.
+  pub record One {X : Type 0} (post : (κ : K) → A κ → R κ → E κ → Type 0) (lent : (κ : K) → E κ → X) : Type 0 where
+    pub same : {κ : K} {a : A κ} {x y : R κ} {e f : E κ} → post κ a x e → post κ a y f → (x ≡ y) × (lent κ e ≡ lent κ f)
+
+  -- the law for a function that writes to nothing
+  abbrev pub Answers : ((κ : K) → A κ → R κ → E κ → Type 0) → Type 0
+  Answers post = One post (λ κ e. nothing)
+
+-- ---- the content at exit of a parameter by its place, which is bytes that are lent
+
+abbrev Lent : Type 0
+Lent = RefT (List ℕ)
+
+abbrev pub first : {A : Type 0} → Lent × A → List ℕ
+first e = now (e .0)
+
+abbrev pub second : {A B : Type 0} → A × (Lent × B) → List ℕ
+second e = now (e .1 .0)
+
+abbrev pub third : {A B C : Type 0} → A × (B × (Lent × C)) → List ℕ
+third e = now (e .1 .1 .0)
+
+abbrev pub fourth : {A B C D : Type 0} → A × (B × (C × (Lent × D))) → List ℕ
+fourth e = now (e .1 .1 .1 .0)
+
+abbrev pub fifth : {A B C D E : Type 0} → A × (B × (C × (D × (Lent × E)))) → List ℕ
+fifth e = now (e .1 .1 .1 .1 .0)

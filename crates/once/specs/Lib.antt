@@ -1,0 +1,17 @@
+pub mod Law
+pub mod Forms
+pub mod Text
+pub mod Signed
+pub mod Psw
+pub mod Opcodes
+pub mod Processor
+pub mod Marks
+pub mod State
+pub mod Memory
+pub mod Modes
+pub mod Gather
+pub mod Effects
+pub mod Engine
+pub mod OpcodeData
+pub mod Listing
+pub mod Exports
