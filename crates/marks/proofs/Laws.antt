@@ -10,7 +10,7 @@ use native.Mathlib.Numerals.{one-add}
 use native.Mathlib.Omega.{arith}
 use native.Mathlib.Decide.{ℕ-discrete}
 use lib.Pow.{pow-pos}
-use lib.ListN.{length, getD, length-set}
+use lib.ListN.{length, getD, set, length-set}
 use lib.Seq.{getD-set-same, getD-set-other, set-out, set-getD}
 use lib.Bits.{bitAnd, bitOr, or-shr, or-mod, or-zero-r, or-add-and, and-high}
 use lib.Dec.{eqb, eqb→eq}
@@ -89,3 +89,21 @@ marked-out m a l h = set-out m (a / 8) _ (omega arith)
 -- to mark changes no length
 pub length-marked : (m : List ℕ) (a : ℕ) → length (marked m a) ≡ length m
 length-marked m a = length-set m (a / 8) _
+
+-- ---- a mark that another map takes out
+
+abbrev taken-out : ℕ → ℕ → Bool
+taken-out w j = eqb (bitAnd (2 ^ j) (255 - w)) (cond (eqb (w / 2 ^ j % 2) 1) 0 (2 ^ j))
+
+-- one bit, less the bits of a byte
+less-bits : (w j : ℕ) → w < 256 → j < 8 → bitAnd (2 ^ j) (255 - w) ≡ cond (eqb (w / 2 ^ j % 2) 1) 0 (2 ^ j)
+less-bits w j g h = eqb→eq _ _ (below-at 8 (taken-out w) (below-at 256 (λ w. below 8 (taken-out w)) tt w g) j h)
+
+-- to set a bit less the other map's is to mark the address unless the other map does
+pub marked-unless : (m other : List ℕ) (a : ℕ) → getD other (a / 8) 0 < 256
+    → set m (a / 8) (bitOr (getD m (a / 8) 0) (bitAnd (2 ^ (a % 8)) (255 - getD other (a / 8) 0))) ≡ cond (isMarked other a) m (marked m a)
+marked-unless m other a h = rw (less-bits (getD other (a / 8) 0) (a % 8) h (omega arith)) (go (isMarked other a))
+  where
+    go : (b : Bool) → set m (a / 8) (bitOr (getD m (a / 8) 0) (cond b 0 (2 ^ (a % 8)))) ≡ cond b m (marked m a)
+    go true = rw or-zero-r (set-getD m (a / 8) 0)
+    go false = refl

@@ -6,7 +6,8 @@ use lib.ListN.{getD, set}
 use Rattle.memory.specs.World.{World, kept}
 use Rattle.memory.specs.Inside.{Bytes}
 
-set-below : (l : List ℕ) (a byte : ℕ) → byte < 256 → ((i : ℕ) → getD l i 0 < 256) → (i : ℕ) → getD (set l a byte) i 0 < 256
+-- a list of bytes in which a byte is set is one still
+pub set-below : (l : List ℕ) (a byte : ℕ) → byte < 256 → ((i : ℕ) → getD l i 0 < 256) → (i : ℕ) → getD (set l a byte) i 0 < 256
 set-below [] a byte b all i = all i
 set-below (x ∷ xs) zero byte b all zero = b
 set-below (x ∷ xs) zero byte b all (suc i) = all (suc i)

@@ -1,27 +1,14 @@
 // Reads and stores of the lent memory, and the marks that they leave in the two maps.
-ghost use lib.ListN.{length};
-ghost use mathlib.Core.Path.{_≡_};
-ghost use Rattle.memory.specs.World.{Sized, world, seen};
+ghost use Rattle.memory.specs.World.{Sized, world};
 ghost use Rattle.memory.specs.Access.{Does, ask, put, outcome};
 ghost use Rattle.memory.specs.Words.{readWord, writeWord};
 
-// Marks an address as read, unless it has been stored to before.
-fn note_read(reads: &mut [u8], writes: &[u8], at: u16)
-    requires { ⌜ (length (now reads) ≡ 8192) × (length (now writes) ≡ 8192) ⌝ }
-    ensures { λ r. ⌜ now (reads .exit) ≡ seen at (world (now (reads .entry)) (now (reads .entry)) (now (writes .entry))) .reads ⌝ }
-{
-    if marks::is_marked(writes, at) {
-        return;
-    }
-    marks::mark(reads, at);
-}
-
-// The byte at an address.
+// The byte at an address, which is marked as read unless it has been stored to before.
 pub fn read(memory: &[u8], reads: &mut [u8], writes: &[u8], at: u16) -> u8
     requires { ⌜ Sized (world (now memory) (now reads) (now writes)) ⌝ }
     ensures { λ r. ⌜ Does (ask at) (world (now (memory .entry)) (now (reads .entry)) (now (writes .entry))) (outcome r (now (memory .entry)) (now (reads .exit)) (now (writes .entry))) ⌝ }
 {
-    note_read(reads, writes, at);
+    marks::mark_unless(reads, writes, at);
     let k = at as usize;
     memory[k]
 }
