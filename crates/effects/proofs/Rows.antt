@@ -1,17 +1,18 @@
 -- What a `match` on an opcode, or on a part of it, says of the table.
 -- Assumes nothing.
-use Prim.Native.Nat.{ℕ, zero, suc, _<_}
+use Prim.Native.Nat.{ℕ, zero, suc, _<_, _≤_}
 use mathlib.Core.Path.{_≡_, refl}
-use mathlib.Core.Bool.{Bool, true, false, cond, not, _&&_}
+use mathlib.Core.Bool.{Bool, true, false, cond, not, _&&_, _||_}
 use mathlib.Core.List.{List, [], _∷_}
 use native.Mathlib.Decide.{ℕ-discrete}
 use native.Mathlib.Omega.{arith}
 use lib.Bits.{bitAnd}
-use lib.Dec.{T, eqb}
+use lib.Dec.{T, eqb, leb, ltb, le→leb, lt→ltb}
 use mir.Val.{hasKey}
 use types.Run.{OneOf}
 use borrow.Author.Tests.{eqb-true}
-use Rattle.laws.specs.Dispatch.{NoneIn, held}
+use Rattle.laws.specs.Below.{below, below-at}
+use Rattle.laws.specs.Dispatch.{when, NoneIn, hasIn, held, none-then}
 use Rattle.laws.specs.Table.{tableOf, same-table}
 use Rattle.instructions.specs.Rows.{rowOf}
 use Rattle.instructions.specs.Rows.Operation.{nop}
@@ -22,6 +23,10 @@ use Rattle.instructions.specs.declared.Effect.{Effect}
 pub both : (a b : Bool) → T a → T b → T (a && b)
 both true b s t = t
 both false b s t = absurd s
+
+met : (a b : Bool) → T a → T (when a b) → T b
+met true b s t = t
+met false b s t = absurd s
 
 -- ---- the last arm of a `match`, where each other arm has one number
 
@@ -74,7 +79,23 @@ row k = effectOf (rowOf k .operation) k
 abbrev pub At : List ℕ → (ℕ → Operands → Effect) → List (Operands → Effect)
 At ks g = tableOf 256 (λ k. cond (hasKey ks (bitAnd k 31)) (g k) (effectOf nop 0))
 
-pub masked : (ks : List ℕ) (g : ℕ → Operands → Effect) →
-    At ks g ≡ At ks row → (k : ℕ) → k < 256 → OneOf ks (bitAnd k 31) → g k ≡ row k
-masked ks g e k h one =
-    where-same (λ k. hasKey ks (bitAnd k 31)) (effectOf nop 0) g row e k h (held ks (bitAnd k 31) one)
+-- an opcode whose low five bits are one of ks, by the test
+pub at-keys : (ks : List ℕ) (g : ℕ → Operands → Effect) →
+    At ks g ≡ At ks row → (k : ℕ) → k < 256 → T (hasKey ks (bitAnd k 31)) → g k ≡ row k
+at-keys ks g e k h t = where-same (λ k. hasKey ks (bitAnd k 31)) (effectOf nop 0) g row e k h t
+
+-- a fact of every opcode whose low five bits the arm names
+pub there : (ks : List ℕ) (p : ℕ → Bool) → T (below 256 (λ k. when (hasKey ks (bitAnd k 31)) (p k))) → (k : ℕ) → k < 256 → OneOf ks (bitAnd k 31) → T (p k)
+there ks p t k h one =
+    met (hasKey ks (bitAnd k 31)) (p k) (held ks (bitAnd k 31) one) (below-at 256 (λ k. when (hasKey ks (bitAnd k 31)) (p k)) t k h)
+
+-- a fact of every opcode whose low five bits are none of some keys, and lie from `least` on below `most`
+abbrev pub Between : List (List ℕ) → ℕ → ℕ → (ℕ → Bool) → Type 0
+Between kss least most p = T (below 256 (λ k. hasIn kss (bitAnd k 31) || when (leb least (bitAnd k 31) && ltb (bitAnd k 31) most) (p k)))
+
+pub between : (kss : List (List ℕ)) (least most : ℕ) (p : ℕ → Bool) → Between kss least most p →
+    (k : ℕ) → k < 256 → NoneIn kss (bitAnd k 31) → least ≤ bitAnd k 31 → bitAnd k 31 < most → T (p k)
+between kss least most p t k h none l m =
+    met (leb least (bitAnd k 31) && ltb (bitAnd k 31) most) (p k)
+    (both (leb least (bitAnd k 31)) (ltb (bitAnd k 31) most) (le→leb _ _ l) (lt→ltb _ _ m))
+    (none-then 256 (λ k. when (leb least (bitAnd k 31) && ltb (bitAnd k 31) most) (p k)) (λ k. bitAnd k 31) kss k h none t)

@@ -35,7 +35,7 @@ pub fn column_a(opcode: u8, o: Operands) -> Effect
         opcodes::MOV1_C_MB => load_c(o),
         opcodes::MOVW_YA_D => load_ya(o),
         opcodes::MOV1_MB_C => store_c(o),
-        opcodes::MOVW_D_YA => storing(cpu, Stores::Word(o.at, o.next, cpu.a, cpu.y)),
+        opcodes::MOVW_D_YA => storing(cpu, Stores::Word(o.at, cpu.a, o.next, cpu.y)),
         opcodes::NOT1_MB => not1(o),
         _ => storing_byte(o, o.low),
     }

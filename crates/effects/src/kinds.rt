@@ -135,7 +135,7 @@ pub fn into_word(o: Operands, made: ProducedWord) -> Effect
     ensures { λ r. ⌜ r ≡ effects.intoWord o made ⌝ }
 {
     let cpu = made.cpu;
-    storing(cpu, Stores::Word(o.at, o.next, made.low, made.high))
+    storing(cpu, Stores::Word(o.at, made.low, o.next, made.high))
 }
 
 // A byte into memory as it is.

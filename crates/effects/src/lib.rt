@@ -10,11 +10,9 @@ mod families;
 mod kinds;
 
 ghost use mathlib.Core.Path.{_≡_};
-ghost use lib.Dec.{T};
 ghost use Rattle.instructions.specs.Rows.{rowOf};
 ghost use Rattle.instructions.specs.Rows.Operation.{call as calls, set1 as sets, clr1 as clears, bbs as branchesIfSet, bbc as branchesIfClear};
 ghost use Rattle.instructions.specs.Effects.{effectOf};
-ghost use Rattle.effects.specs.Columns.{inColumns};
 use instructions::Effect;
 use instructions::Operands;
 use instructions::Stores;
@@ -29,28 +27,15 @@ pub fn effect_of(opcode: u8, o: Operands) -> Effect
         opcodes::BBS_D_R_MASK => bbs(opcode, o),
         opcodes::BBC_D_R_MASK => bbc(opcode, o),
         opcodes::TCALL_MASK | 0x11 => call(o),
-        // no two neighbours in an arm: they would become a range
-        0x04 | 0x06 | 0x14 | 0x16 => families::accumulator(opcode / 32, o),
-        0x05 | 0x07 | 0x15 | 0x17 => families::accumulator(opcode / 32, o),
-        0x09 | 0x18 => families::pairs(opcode / 32, o),
-        0x19 => families::pairs(opcode / 32, o),
-        0x0B | 0x1B => families::shifts(opcode / 32, o),
-        0x0C => families::shifts(opcode / 32, o),
-        _ => by_column(opcode, o),
-    }
-}
-
-// The other columns of the table, by the opcode's low digit, have an instruction of its own in each place.
-fn by_column(opcode: u8, o: Operands) -> Effect
-    requires { ⌜ T (inColumns opcode) ⌝ }
-    ensures { λ r. ⌜ r ≡ effectOf (rowOf opcode .operation) opcode o ⌝ }
-{
-    match opcode % 16 {
-        0 => column_0::column_0(opcode, o),
-        8 | 12 => column_8::column_8(opcode, o),
-        10 => column_a::column_a(opcode, o),
-        13 => column_d::column_d(opcode, o),
-        14 => column_e::column_e(opcode, o),
+        0x04..=0x07 | 0x14..=0x17 => families::accumulator(opcode / 32, o),
+        0x09 | 0x18..=0x19 => families::pairs(opcode / 32, o),
+        0x0B..=0x0C | 0x1B => families::shifts(opcode / 32, o),
+        // the other columns, by the opcode's low digit, have an instruction of its own in each place
+        0x00 | 0x10 => column_0::column_0(opcode, o),
+        0x08 | 0x1C => column_8::column_8(opcode, o),
+        0x0A | 0x1A => column_a::column_a(opcode, o),
+        0x0D | 0x1D => column_d::column_d(opcode, o),
+        0x0E | 0x1E => column_e::column_e(opcode, o),
         _ => column_f::column_f(opcode, o),
     }
 }

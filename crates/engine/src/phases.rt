@@ -40,7 +40,7 @@ fn commit(
             memory::store(memory, reads, writes, at, byte);
             cpu
         }
-        Stores::Word(at, next, low, high) => {
+        Stores::Word(at, low, next, high) => {
             memory::store(memory, reads, writes, at, low);
             memory::store(memory, reads, writes, next, high);
             cpu

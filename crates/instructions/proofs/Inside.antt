@@ -43,7 +43,7 @@ committed : (s : Stores) (cpu : Processor) → Kept s → Fits cpu → Within Fi
 unfolding commitOf called
 committed Nothing cpu k c = ends c
 committed (Byte at byte) cpu k c = stores (k .0) (k .1) (ends c)
-committed (Word at next low high) cpu k c = stores (k .0) (k .2) (stores (k .1) (k .3) (ends c))
+committed (Word at low next high) cpu k c = stores (k .0) (k .1) (stores (k .2) (k .3) (ends c))
 committed (Push byte) cpu k c = pushed byte k cpu c
 committed (Call target) cpu k c = follow (pushed-word (cpu .pc) (c .pc) cpu c) (λ d f. ends (goes-to f k))
 committed (Break byte target) cpu k c =

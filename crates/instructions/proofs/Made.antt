@@ -20,7 +20,7 @@ use Rattle.instructions.proofs.Bounds.{Widths, either, or-byte, xor-byt
 abbrev pub Kept : Stores → Type 0
 Kept Nothing = Unit
 Kept (Byte at byte) = (at < 65536) × (byte < 256)
-Kept (Word at next low high) = (at < 65536) × (next < 65536) × (low < 256) × (high < 256)
+Kept (Word at low next high) = (at < 65536) × (low < 256) × (next < 65536) × (high < 256)
 Kept (Push byte) = byte < 256
 Kept (Call target) = target < 65536
 Kept (Break byte target) = (byte < 256) × (target < 65536)
@@ -62,8 +62,8 @@ module _ (k : ℕ) (b : k < 256) {o : Operands} (g : Gathered o) where
   to-byte : {n : ℕ} → n < 256 → Widths (o .cpu) × ((o .at < 65536) × (n < 256))
   to-byte h = (kept, (g .at, h))
 
-  to-word : {m n : ℕ} → m < 256 → n < 256 → Widths (o .cpu) × ((o .at < 65536) × (o .next < 65536) × (m < 256) × (n < 256))
-  to-word h i = (kept, (g .at, g .next, h, i))
+  to-word : {m n : ℕ} → m < 256 → n < 256 → Widths (o .cpu) × ((o .at < 65536) × (m < 256) × (o .next < 65536) × (n < 256))
+  to-word h i = (kept, (g .at, h, g .next, i))
 
   -- a branch: PC stays before the displacement, or passes it by
   past-y : {n : ℕ} → n < 256 → Widths (onward (withY n (o .cpu)))

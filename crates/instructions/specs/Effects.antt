@@ -56,7 +56,7 @@ abbrev pub intoMemory : ℕ → Produced → Effect
 intoMemory at p = storing (Byte at (p .byte)) (p .cpu)
 
 abbrev pub intoWord : Operands → ProducedWord → Effect
-intoWord o w = storing (Word (o .at) (o .next) (w .low) (w .high)) (w .cpu)
+intoWord o w = storing (Word (o .at) (w .low) (o .next) (w .high)) (w .cpu)
 
 -- a byte as it is
 abbrev pub storingByte : Operands → ℕ → Effect
@@ -172,7 +172,7 @@ effectOf movXSP k o = intoX (movOf (o .cpu) (o .cpu .sp))
 effectOf movSPX k o = registers (withSp (o .cpu .x) (o .cpu))
 -- words: MOVW YA,d sets N Z over 16 bits
 effectOf loadYA k o = registers (withYA (o .high) (o .low) (nzWordOf (o .cpu) (wordOf (o .low) (o .high))))
-effectOf storeYA k o = storing (Word (o .at) (o .next) (o .cpu .a) (o .cpu .y)) (o .cpu)
+effectOf storeYA k o = storing (Word (o .at) (o .cpu .a) (o .next) (o .cpu .y)) (o .cpu)
 effectOf addw k o = registers (addwOf (o .cpu) (o .low) (o .high))
 effectOf subw k o = registers (subwOf (o .cpu) (o .low) (o .high))
 effectOf cmpw k o = registers (cmpwOf (o .cpu) (o .low) (o .high))

@@ -21,7 +21,7 @@ use Rattle.instructions.specs.declared.Stores.the-variants.{Nothing, Byt
 unfoldable pub commitOf : Stores → Processor → Access Processor
 commitOf Nothing cpu = done cpu
 commitOf (Byte at byte) cpu = storeAt at byte (done cpu)
-commitOf (Word at next low high) cpu = storeAt at low (storeAt next high (done cpu))
+commitOf (Word at low next high) cpu = storeAt at low (storeAt next high (done cpu))
 commitOf (Push byte) cpu = push byte cpu
 commitOf (Call target) cpu = called target cpu
 commitOf (Break byte target) cpu = then (pushWord (cpu .pc) cpu) (λ c. then (push byte c) (λ d. done (withPc target d)))
