@@ -2,3 +2,4 @@ pub mod Entry
 pub mod Theorems
 pub mod Provenance
 pub mod Inside
+pub mod Stops

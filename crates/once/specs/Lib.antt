@@ -15,3 +15,4 @@ pub mod Engine
 pub mod OpcodeData
 pub mod Listing
 pub mod Exports
+pub mod Runner

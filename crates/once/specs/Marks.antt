@@ -10,5 +10,8 @@ is-marked-once = record { same = answers }
 pub mark-once : One marks.mark.Reads.Post (λ κ. first)
 mark-once = record { same = leaves }
 
+pub mark-unless-once : One marks.mark_unless.Reads.Post (λ κ. first)
+mark-unless-once = record { same = leaves }
+
 pub count-once : Answers marks.count.Reads.Post
 count-once = record { same = answers }

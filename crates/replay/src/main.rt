@@ -4,7 +4,6 @@ mod methods;
 mod modes;
 
 use libc::STDIN_FILENO;
-use libc::STDOUT_FILENO;
 use processor::Processor;
 use psw::ProgramStatusWord;
 use text::Line;
@@ -17,20 +16,9 @@ fn main() {
         if got < 16 {
             return;
         }
-        print(answer(case));
+        output::print(answer(case).push(b'\n'));
         left -= 1;
     }
-}
-
-fn print(line: Line) {
-    let whole = line.push(b'\n');
-    let bytes = whole.bytes;
-    io::write_all(STDOUT_FILENO, first(&bytes, whole.length));
-}
-
-// The first n bytes, or all where there are fewer.
-fn first(bytes: &[u8], n: usize) -> &[u8] {
-    if n <= bytes.len() { &bytes[..n] } else { bytes }
 }
 
 fn answer(case: [u8; 16]) -> Line {

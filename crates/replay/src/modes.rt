@@ -1,8 +1,8 @@
 // Address modes by number, and the two functions on them.
-use crate::first;
 use opcode_data::AddressMode;
 use opcode_data::Modes;
 use opcode_data::OpcodeData;
+use output::first;
 use text::Line;
 
 fn mode(kind: u8, number: u8) -> AddressMode {

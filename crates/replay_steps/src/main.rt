@@ -6,8 +6,6 @@ mod case;
 mod report;
 
 use libc::STDIN_FILENO;
-use libc::STDOUT_FILENO;
-use text::Line;
 
 // Lends memory and maps to the session.
 fn main() {
@@ -36,17 +34,6 @@ fn session(memory: &mut [u8], reads: &mut [u8], writes: &mut [u8]) {
 fn one(memory: &mut [u8], reads: &mut [u8], writes: &mut [u8], given: &[u8]) {
     case::poke(memory, given);
     let answer = asked::ask(memory, reads, writes, given);
-    print(report::line(answer, memory, reads, writes));
+    output::print(report::line(answer, memory, reads, writes));
     case::unpoke(memory, given);
-}
-
-// Writes a line to standard output.
-fn print(line: Line) {
-    let bytes = line.bytes;
-    io::write_all(STDOUT_FILENO, first(&bytes, line.length));
-}
-
-// The first n bytes, or all where there are fewer.
-fn first(bytes: &[u8], n: usize) -> &[u8] {
-    if n <= bytes.len() { &bytes[..n] } else { bytes }
 }

@@ -27,6 +27,9 @@ returns c = search needs
 answer-requires : tie.Need-answer-requires Inv-loop μ-loop
 answer-requires c κs = search needs
 
+push-requires : tie.Need-push-requires Inv-loop μ-loop
+push-requires c κs = search needs
+
 print-requires : tie.Need-print-requires Inv-loop μ-loop
 print-requires c κs = search needs
 
@@ -53,6 +56,7 @@ main-spec =
     read-full-requires
     returns
     answer-requires
+    push-requires
     print-requires
     sub-left
     loop-less

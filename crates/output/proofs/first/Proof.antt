@@ -3,8 +3,8 @@
 use borrow.Author.Needs.{needs}
 use native.Mathlib.Omega.{arith}
 use lib.ListN.{length-take}
-use Rattle.replay.proofs.first.Statement.{statement}
-use Rattle.replay.proofs.first.Tie as tie
+use Rattle.output.proofs.first.Statement.{statement}
+use Rattle.output.proofs.first.Tie as tie
 
 slice-aggregate-result : tie.Need-slice-aggregate-result
 slice-aggregate-result c = simp length-take (omega arith)

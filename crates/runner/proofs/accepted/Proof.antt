@@ -1,0 +1,85 @@
+-- The parts of the input are the budget, the registers and the memory; the memory that the run leaves goes back to its place, with
+-- nothing behind it.
+-- Assumes nothing.
+use Prim.Native.Nat.{ℕ, _-_, _≤_}
+use mathlib.Core.Path.{_≡_}
+use mathlib.Core.List.{List, [], _++_, append-nil}
+use native.Mathlib.Omega.{arith}
+use lib.ListN.{length, take, drop}
+use lib.Seq.{drop-length}
+use borrow.Author.Needs.{needs}
+use borrow.Rule.Slice.PartAt.{part-to-end}
+use borrow.Rule.Slice.PartMut.{putMid, post-is}
+use Rattle.processor.specs.declared.Processor.{Processor}
+use Rattle.state.specs.Registers.{registersOf}
+use Rattle.engine.specs.Provenance.{played}
+use Rattle.runner.specs.Session.{budgetOf, runOn}
+use Rattle.runner.specs.Told.{Tells, reported}
+use Rattle.runner.specs.declared.Report.{Report}
+use Rattle.runner.proofs.accepted.Statement.{statement}
+use Rattle.runner.proofs.accepted.Tie as tie
+
+-- A part up to the end, put back, has nothing behind it.
+put-back : (input memory : List ℕ) → 11 ≤ length input → putMid 11 (length input - 11) input memory ≡ take 11 input ++ memory
+put-back input memory h = rw (post-is 11 (length input) input h, drop-length input, append-nil memory)
+
+-- A run on the input's parts is the run on the input.
+placed : (input : List ℕ) {budget : ℕ} {cpu : Processor} {part memory : List ℕ} {r : Report} → length input ≡ 65547
+    → budget ≡ budgetOf input → cpu ≡ registersOf (take 7 (drop 4 input)) → part ≡ drop 11 input
+    → Tells (reported [] (played budget cpu part)) r memory
+    → Tells (reported (take 11 input) (runOn input)) r (putMid 11 (length input - 11) input memory)
+placed input {memory = memory} size b c p t =
+    let s = rw (b, c, p) at t in
+    record { opening = s .opening; closing = s .closing; left = rw (put-back input memory (omega arith), s .left) }
+
+budget-requires : tie.Need-budget-requires
+budget-requires c κs = search needs
+
+sub-registers : tie.Need-sub-registers
+sub-registers c = search needs
+
+part-registers-start : tie.Need-part-registers-start
+part-registers-start c = search needs
+
+part-registers-end : tie.Need-part-registers-end
+part-registers-end c = search needs
+
+registers-requires : tie.Need-registers-requires
+registers-requires c κs = search needs
+
+sub-run-on : tie.Need-sub-run-on
+sub-run-on c = search needs
+
+part-run-on-start : tie.Need-part-run-on-start
+part-run-on-start c = search needs
+
+part-run-on-end : tie.Need-part-run-on-end
+part-run-on-end c = search needs
+
+run-on-requires : tie.Need-run-on-requires
+run-on-requires c κs = search needs
+
+same-length : tie.Need-same-length
+same-length c = search needs
+
+returns : tie.Need-returns
+returns c =
+    let input = c .before .before .before .before .before .before .before .before .before .before .args .input .now in
+    placed input (c .before .before .before .before .before .before .before .before .before .before .pre) (c .before .before .before .before .before .before .before .budget .ensures) (c .before .before .before .before .registers .ensures) (part-to-end input 11)
+    (c .before .before .run-on .ensures)
+
+pub accepted-spec : {M : Type 1} → statement M
+accepted-spec =
+    tie.close
+    (tie.spec
+    budget-requires
+    sub-registers
+    part-registers-start
+    part-registers-end
+    registers-requires
+    sub-run-on
+    part-run-on-start
+    part-run-on-end
+    run-on-requires
+    same-length
+    returns)

@@ -1,0 +1,49 @@
+-- The runner: what it prints for an input.
+use Prim.Native.Nat.{ℕ, _+_, _*_}
+use mathlib.Core.Bool.{cond}
+use mathlib.Core.List.{List, [], _++_}
+use lib.Dec.{eqb}
+use lib.ListN.{length, getD, take, drop}
+use Rattle.text.specs.Digits.{decimal}
+use Rattle.text.specs.Quoted.{text}
+use Rattle.psw.specs.Status.{statusText}
+use Rattle.processor.specs.Text.{registersText}
+use Rattle.marks.specs.Maps.{marksIn}
+use Rattle.memory.specs.World.{World}
+use Rattle.memory.specs.Access.{Outcome}
+use Rattle.state.specs.Registers.{registersOf}
+use Rattle.engine.specs.Provenance.{played}
+use Rattle.engine.specs.declared.Ran.{Ran}
+
+-- The input: four bytes of budget, low first; A X Y SP PC-low PC-high PSW; the memory.
+abbrev pub budgetOf : List ℕ → ℕ
+budgetOf input = getD input 0 0 + 256 * getD input 1 0 + 65536 * getD input 2 0 + 16777216 * getD input 3 0
+
+abbrev pub runOn : List ℕ → Outcome World Ran
+runOn input = played (budgetOf input) (registersOf (take 7 (drop 4 input))) (drop 11 input)
+
+-- The report: the stop, the steps and the registers; then the flags and how many addresses each map marks.
+unfoldable pub openingOf : Ran → List ℕ
+openingOf r = text "stop " ++ decimal (r .stop) ++ text "\nsteps " ++ decimal (r .steps) ++ text "\n" ++ registersText (r .cpu) ++ text "\n"
+
+unfoldable pub closingOf : Outcome World Ran → List ℕ
+closingOf o =
+    statusText (o .result .cpu .psw)
+    ++ text "\nread "
+    ++ decimal (marksIn (o .left .reads))
+    ++ text " written "
+    ++ decimal (marksIn (o .left .writes))
+    ++ text "\n"
+
+-- what is printed, in two parts, and what is left in the bytes of the input, in which the run's memory stands
+pub record Session : Type 0 where
+  pub opening : List ℕ
+  pub closing : List ℕ
+  pub left : List ℕ
+
+-- An input that is not 65,547 bytes gives the one line `refused 6`.
+unfoldable pub sessionOf : List ℕ → Session
+sessionOf input =
+    cond (eqb (length input) 65547)
+    (record { opening = openingOf (runOn input .result); closing = closingOf (runOn input); left = take 11 input ++ runOn input .left .memory })
+    (record { opening = text "refused 6\n"; closing = []; left = input })

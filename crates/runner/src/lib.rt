@@ -1,0 +1,72 @@
+// The runner: a run on a state record, and the report of it.
+mod lines;
+
+ghost use Prim.Native.Nat.{_+_, _*_};
+ghost use mathlib.Core.Path.{_≡_};
+ghost use mathlib.Core.List.{[]};
+ghost use lib.ListN.{length, take};
+ghost use Rattle.engine.specs.Provenance.{played};
+ghost use Rattle.runner.specs.Session.{budgetOf, runOn, sessionOf};
+ghost use Rattle.runner.specs.Told.{Tells, reported};
+use processor::Processor;
+use text::Line;
+
+// What the program prints: two lines of text, each of which may hold several that end in a newline.
+pub struct Report {
+    pub opening: Line,
+    pub closing: Line,
+}
+
+// The number that four bytes hold, low first.
+fn number(b0: u8, b1: u8, b2: u8, b3: u8) -> u32
+    ensures { λ r. ⌜ r ≡ b0 + 256 * b1 + 65536 * b2 + 16777216 * b3 ⌝ }
+{
+    b0 as u32 + 256 * b1 as u32 + 65536 * b2 as u32 + 16777216 * b3 as u32
+}
+
+// The budget, which the input's first four bytes hold.
+fn budget(input: &[u8]) -> u32
+    requires { ⌜ length (now input) ≡ 65547 ⌝ }
+    ensures { λ r. ⌜ r ≡ budgetOf (now (input .entry)) ⌝ }
+{
+    number(input[0], input[1], input[2], input[3])
+}
+
+// Runs from clear maps, and reports.
+fn run_on(cpu: Processor, memory: &mut [u8], budget: u32) -> Report
+    ensures { λ r. ⌜ Tells (reported [] (played budget cpu (now (memory .entry)))) r (now (memory .exit)) ⌝ }
+{
+    let mut reads = [0u8; 8192];
+    let mut writes = [0u8; 8192];
+    let ran = engine::run(cpu, memory, &mut reads, &mut writes, budget);
+    let next = ran.cpu;
+    let read = marks::count(&reads);
+    let written = marks::count(&writes);
+    Report {
+        opening: lines::opening(ran),
+        closing: lines::closing(next, read.count, written.count),
+    }
+}
+
+// Runs an input of the right length.
+fn accepted(input: &mut [u8]) -> Report
+    requires { ⌜ length (now input) ≡ 65547 ⌝ }
+    ensures { λ r. ⌜ Tells (reported (take 11 (now (input .entry))) (runOn (now (input .entry)))) r (now (input .exit)) ⌝ }
+{
+    let budget = budget(input);
+    let cpu = state::registers(&input[4..11]);
+    run_on(cpu, &mut input[11..], budget)
+}
+
+// Runs the input, in whose bytes the memory stands, from clear maps, and reports. An input of a wrong length gives `refused 6`.
+pub fn session(input: &mut [u8]) -> Report
+    ensures { λ r. ⌜ Tells (sessionOf (now (input .entry))) r (now (input .exit)) ⌝ }
+{
+    if input.len() != 65547 {
+        return Report {
+            opening: Line::new().text(b"refused 6\n"),
+            closing: Line::new(),
+        };
+    }
+    accepted(input)
+}
