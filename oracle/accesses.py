@@ -24,14 +24,16 @@ def parsed_rows():
 class Machine:
     """A case's registers and memory. It notes each access, in the words of the Rust side: r0200, w01FF7F.
 
-    (X) and (Y) stand in the direct page, unless the crate's mistake D6 is to be followed.
+    (X) and (Y) stand in the direct page, unless the crate's mistake D6 is to be followed. `under` is what memory holds before the
+    case's own bytes are put into it; a case that ends behind its arguments has none of these.
     """
 
-    def __init__(self, case, follow_d6=False):
+    def __init__(self, case, follow_d6=False, under=BACKGROUND):
         self.a, self.x, self.y, self.sp = case[0], case[1], case[2], case[3]
         self.pc, self.psw = case[4] | case[5] << 8, case[6]
         self.asked, self.arguments = case[7], case[8:11]
-        self.memory = {case[i] | case[i + 1] << 8: case[i + 2] for i in range(11, 62, 3)}
+        self.under = under
+        self.memory = {case[i] | case[i + 1] << 8: case[i + 2] for i in range(11, len(case) - 2, 3)}
         self.page = 0x100 if self.psw & P else 0
         self.indirect_page = 0 if follow_d6 else self.page
         self.log, self.reads, self.stores = [], set(), {}
@@ -39,7 +41,7 @@ class Machine:
 
     def byte_at(self, at):
         """The byte that stands at an address now; no access."""
-        return self.memory.get(at, BACKGROUND[at])
+        return self.memory.get(at, self.under[at])
 
     def read(self, at):
         self.log.append(f"r{at:04X}")
@@ -378,9 +380,9 @@ ASKED = {
 }
 
 
-def performed(case, follow_d6=False):
+def performed(case, follow_d6=False, under=BACKGROUND):
     """The machine after what the case asks, and what was found, as our program prints it."""
-    m = Machine(case, follow_d6)
+    m = Machine(case, follow_d6, under)
     low, high, _ = m.arguments
     found = ASKED[m.asked](m, low, high << 8 | low)
     first, second = found if isinstance(found, tuple) else (found or 0, 0)

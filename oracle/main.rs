@@ -66,12 +66,16 @@ fn registers(case: &Case) -> Processor {
     }
 }
 
-// Reads cases of N bytes to the end, and writes the answer to each.
+// Reads cases of N bytes to the end, and writes the answer to each. Where no case is waiting the answers are handed over: whoever asked
+// may need them to make the next cases.
 fn answers<const N: usize>(out: &mut impl Write, mut answer: impl FnMut(&[u8; N]) -> String) {
     let mut input = std::io::BufReader::new(std::io::stdin());
     let mut case = [0; N];
     while input.read_exact(&mut case).is_ok() {
         writeln!(out, "{}", answer(&case)).unwrap();
+        if input.buffer().is_empty() {
+            out.flush().unwrap();
+        }
     }
 }
 
