@@ -13,7 +13,7 @@ use types.Run.{OneOf}
 use borrow.Author.Tests.{eqb-true}
 use Rattle.laws.specs.Below.{below, below-at}
 use Rattle.laws.specs.Dispatch.{when, NoneIn, hasIn, held, none-then}
-use Rattle.laws.specs.Table.{tableOf, same-table}
+use Rattle.laws.specs.Table.{tableOf, where-same}
 use Rattle.instructions.specs.Rows.{rowOf}
 use Rattle.instructions.specs.Rows.Operation.{nop}
 use Rattle.instructions.specs.Effects.{effectOf}
@@ -61,16 +61,6 @@ the-last last p n x h t none = go (eqb x last) refl
 
 -- ---- an arm of a `match` on an opcode's low five bits
 
--- functions that have one table where p holds agree at each number there
-where-same : {A : Type 0} (p : ℕ → Bool) (d : A) (f g : ℕ → A) →
-    tableOf 256 (λ k. cond (p k) (f k) d) ≡ tableOf 256 (λ k. cond (p k) (g k) d) → (x : ℕ) → x < 256 → T (p x) → f x ≡ g x
-where-same p d f g e x h t =
-    go (p x) t (same-table 256 (λ k. cond (p k) (f k) d) (λ k. cond (p k) (g k) d) e x h)
-  where
-    go : (b : Bool) → T b → cond b (f x) d ≡ cond b (g x) d → f x ≡ g x
-    go true t s = s
-    go false t s = absurd t
-
 -- the effect of an opcode's row
 abbrev pub row : ℕ → Operands → Effect
 row k = effectOf (rowOf k .operation) k
@@ -82,7 +72,7 @@ At ks g = tableOf 256 (λ k. cond (hasKey ks (bitAnd k 31)) (g k) (effectOf nop 
 -- an opcode whose low five bits are one of ks, by the test
 pub at-keys : (ks : List ℕ) (g : ℕ → Operands → Effect) →
     At ks g ≡ At ks row → (k : ℕ) → k < 256 → T (hasKey ks (bitAnd k 31)) → g k ≡ row k
-at-keys ks g e k h t = where-same (λ k. hasKey ks (bitAnd k 31)) (effectOf nop 0) g row e k h t
+at-keys ks g e k h t = where-same 256 (λ k. hasKey ks (bitAnd k 31)) (effectOf nop 0) g row e k h t
 
 -- a fact of every opcode whose low five bits the arm names
 pub there : (ks : List ℕ) (p : ℕ → Bool) → T (below 256 (λ k. when (hasKey ks (bitAnd k 31)) (p k))) → (k : ℕ) → k < 256 → OneOf ks (bitAnd k 31) → T (p k)

@@ -29,7 +29,8 @@ pub fn effect_of(opcode: u8, o: Operands) -> Effect
         opcodes::TCALL_MASK | 0x11 => call(o),
         0x04..=0x07 | 0x14..=0x17 => families::accumulator(opcode / 32, o),
         0x09 | 0x18..=0x19 => families::pairs(opcode / 32, o),
-        0x0B..=0x0C | 0x1B => families::shifts(opcode / 32, o),
+        0x0B | 0x1B => families::shifts(opcode / 32, o),
+        0x0C => families::shifts(opcode / 32, o),
         // the other columns, by the opcode's low digit, have an instruction of its own in each place
         0x00 | 0x10 => column_0::column_0(opcode, o),
         0x08 | 0x1C => column_8::column_8(opcode, o),

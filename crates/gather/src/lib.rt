@@ -3,14 +3,16 @@ mod loads;
 mod several;
 mod targets;
 
+ghost use mathlib.Core.Path.{_≡_};
 ghost use Rattle.memory.specs.World.{Sized, world};
 ghost use Rattle.memory.specs.Access.{Does, outcome};
-ghost use Rattle.instructions.specs.Gather.{gatherOf};
+ghost use Rattle.instructions.specs.Gather.{gatherOf, operands};
 ghost use Rattle.instructions.specs.Rows.{rowOf};
 use instructions::Operands;
 use processor::Processor;
 
-// What the opcode's row reads, with PC behind the opcode.
+// What the opcode's row reads, with PC behind the opcode. The low five bits pick a column of the table, whose rows read alike but for
+// the opcodes named in its arm.
 pub fn gather(
     cpu: Processor,
     memory: &[u8],
@@ -22,143 +24,104 @@ pub fn gather(
     ensures { λ r. ⌜ Does (gatherOf (rowOf opcode .mode) opcode cpu) (world (now (memory .entry)) (now (reads .entry)) (now (writes .entry))) (outcome r (now (memory .entry)) (now (reads .exit)) (now (writes .entry))) ⌝ }
 {
     match opcode & 0x1F {
+        0x00 | 0x10 | 0x1D => implied(cpu),
+        opcodes::TCALL_MASK | 0x11 => several::table_vector(cpu, memory, reads, writes, opcode),
         opcodes::SET1_MASK | opcodes::CLR1_D => loads::direct(cpu, memory, reads, writes),
         opcodes::BBS_D_R_MASK | opcodes::BBC_D_R_MASK => loads::direct(cpu, memory, reads, writes),
-        opcodes::TCALL_MASK | 0x11 => several::table_vector(cpu, memory, reads, writes, opcode),
-        _ => match opcode {
-            opcodes::OR_A_D
-            | opcodes::ASL_D
-            | opcodes::AND_A_D
-            | opcodes::ROL_D
-            | opcodes::CBNE_D_R
-            | opcodes::CMP_X_D
-            | opcodes::EOR_A_D
-            | opcodes::LSR_D
-            | opcodes::CMP_A_D
-            | opcodes::ROR_D
-            | opcodes::DBNZ_D_R
-            | opcodes::CMP_Y_D
-            | opcodes::ADC_A_D
-            | opcodes::DEC_D
-            | opcodes::SBC_A_D
-            | opcodes::INC_D
-            | opcodes::MOV_A_D
-            | opcodes::MOV_Y_D
-            | opcodes::MOV_X_D => loads::direct(cpu, memory, reads, writes),
-            opcodes::OR_A_ABS
-            | opcodes::ASL_ABS
-            | opcodes::TSET1_ABS
-            | opcodes::CMP_X_ABS
-            | opcodes::AND_A_ABS
-            | opcodes::ROL_ABS
-            | opcodes::EOR_A_ABS
-            | opcodes::LSR_ABS
-            | opcodes::TCLR1_ABS
-            | opcodes::CMP_Y_ABS
-            | opcodes::CMP_A_ABS
-            | opcodes::ROR_ABS
-            | opcodes::ADC_A_ABS
-            | opcodes::DEC_ABS
-            | opcodes::SBC_A_ABS
-            | opcodes::INC_ABS
-            | opcodes::MOV_A_ABS
-            | opcodes::MOV_X_ABS
-            | opcodes::MOV_Y_ABS => loads::absolute(cpu, memory, reads, writes),
-            opcodes::OR_A_IX
-            | opcodes::AND_A_IX
-            | opcodes::EOR_A_IX
-            | opcodes::CMP_A_IX
-            | opcodes::ADC_A_IX
-            | opcodes::SBC_A_IX
-            | opcodes::MOV_A_XINC
-            | opcodes::MOV_A_IX => loads::at_x(cpu, memory, reads, writes),
-            opcodes::OR_A_IDX
-            | opcodes::AND_A_IDX
-            | opcodes::EOR_A_IDX
-            | opcodes::CMP_A_IDX
-            | opcodes::ADC_A_IDX
-            | opcodes::SBC_A_IDX
-            | opcodes::MOV_A_IDX => loads::pointer_x(cpu, memory, reads, writes),
-            opcodes::OR_A_IMM
-            | opcodes::AND_A_IMM
-            | opcodes::EOR_A_IMM
-            | opcodes::CMP_A_IMM
-            | opcodes::ADC_A_IMM
-            | opcodes::MOV_Y_IMM
-            | opcodes::SBC_A_IMM
-            | opcodes::CMP_Y_IMM
-            | opcodes::CMP_X_IMM
-            | opcodes::MOV_X_IMM
-            | opcodes::MOV_A_IMM => several::immediate(cpu, memory, reads, writes),
-            opcodes::OR_D_D
-            | opcodes::AND_D_D
-            | opcodes::EOR_D_D
-            | opcodes::CMP_D_D
-            | opcodes::ADC_D_D
-            | opcodes::SBC_D_D => several::direct_direct(cpu, memory, reads, writes),
-            opcodes::OR1_C_MB
-            | opcodes::OR1_C_NMB
-            | opcodes::AND1_C_MB
-            | opcodes::AND1_C_NMB
-            | opcodes::EOR1_C_MB
-            | opcodes::MOV1_C_MB
-            | opcodes::MOV1_MB_C
-            | opcodes::NOT1_MB => several::memory_bit(cpu, memory, reads, writes),
+        0x04 | 0x0B => match opcode {
+            opcodes::MOV_D_A | opcodes::MOV_D_Y => targets::to_direct(cpu, memory, reads, writes),
+            _ => loads::direct(cpu, memory, reads, writes),
+        },
+        0x05 | 0x0C => match opcode {
+            opcodes::MOV_ABS_A | opcodes::MOV_ABS_Y => targets::to_absolute(
+                cpu,
+                memory,
+                reads,
+                writes,
+            ),
+            _ => loads::absolute(cpu, memory, reads, writes),
+        },
+        0x06 => match opcode {
+            opcodes::MOV_IX_A => targets::aim(modes::ix(cpu)),
+            _ => loads::at_x(cpu, memory, reads, writes),
+        },
+        0x07 => match opcode {
+            opcodes::MOV_IDX_A => targets::to_pointer_x(cpu, memory, reads, writes),
+            _ => loads::pointer_x(cpu, memory, reads, writes),
+        },
+        0x08 => several::immediate(cpu, memory, reads, writes),
+        0x09 => match opcode {
+            opcodes::MOV_ABS_X => targets::to_absolute(cpu, memory, reads, writes),
+            opcodes::MOV_X_ABS => loads::absolute(cpu, memory, reads, writes),
+            _ => several::direct_direct(cpu, memory, reads, writes),
+        },
+        0x0A => several::memory_bit(cpu, memory, reads, writes),
+        0x0D => match opcode {
+            opcodes::MOV_Y_IMM | opcodes::CMP_Y_IMM | opcodes::MOV_X_IMM => several::immediate(
+                cpu,
+                memory,
+                reads,
+                writes,
+            ),
+            _ => implied(cpu),
+        },
+        0x0E => match opcode {
+            opcodes::TSET1_ABS | opcodes::TCLR1_ABS => loads::absolute(cpu, memory, reads, writes),
+            opcodes::CBNE_D_R | opcodes::DBNZ_D_R => loads::direct(cpu, memory, reads, writes),
+            _ => several::pulled(cpu, memory, reads, writes),
+        },
+        0x0F => match opcode {
             opcodes::BRK => several::vector_at(cpu, memory, reads, writes, 0xFFDE),
-            opcodes::OR_A_DX
-            | opcodes::ASL_DX
-            | opcodes::AND_A_DX
-            | opcodes::ROL_DX
-            | opcodes::EOR_A_DX
-            | opcodes::LSR_DX
-            | opcodes::CMP_A_DX
-            | opcodes::ROR_DX
-            | opcodes::ADC_A_DX
-            | opcodes::DEC_DX
-            | opcodes::SBC_A_DX
-            | opcodes::INC_DX
-            | opcodes::CBNE_DX_R
-            | opcodes::MOV_A_DX
-            | opcodes::MOV_Y_DX => loads::direct_x(cpu, memory, reads, writes),
-            opcodes::OR_A_ABSX
-            | opcodes::AND_A_ABSX
-            | opcodes::EOR_A_ABSX
-            | opcodes::CMP_A_ABSX
-            | opcodes::ADC_A_ABSX
-            | opcodes::SBC_A_ABSX
-            | opcodes::MOV_A_ABSX => loads::absolute_x(cpu, memory, reads, writes),
-            opcodes::OR_A_ABSY
-            | opcodes::AND_A_ABSY
-            | opcodes::EOR_A_ABSY
-            | opcodes::CMP_A_ABSY
-            | opcodes::ADC_A_ABSY
-            | opcodes::SBC_A_ABSY
-            | opcodes::MOV_A_ABSY => loads::absolute_y(cpu, memory, reads, writes),
-            opcodes::OR_A_IDY
-            | opcodes::AND_A_IDY
-            | opcodes::EOR_A_IDY
-            | opcodes::CMP_A_IDY
-            | opcodes::ADC_A_IDY
-            | opcodes::SBC_A_IDY
-            | opcodes::MOV_A_IDY => loads::pointer_y(cpu, memory, reads, writes),
-            opcodes::OR_D_IMM
-            | opcodes::AND_D_IMM
-            | opcodes::EOR_D_IMM
-            | opcodes::CMP_D_IMM
-            | opcodes::ADC_D_IMM
-            | opcodes::SBC_D_IMM => several::direct_immediate(cpu, memory, reads, writes),
-            opcodes::OR_IX_IY
-            | opcodes::AND_IX_IY
-            | opcodes::EOR_IX_IY
-            | opcodes::CMP_IX_IY
-            | opcodes::ADC_IX_IY
-            | opcodes::SBC_IX_IY => several::at_x_at_y(cpu, memory, reads, writes),
-            opcodes::DECW_D
-            | opcodes::INCW_D
-            | opcodes::CMPW_YA_D
-            | opcodes::ADDW_YA_D
-            | opcodes::SUBW_YA_D
-            | opcodes::MOVW_YA_D => several::direct_word(cpu, memory, reads, writes),
+            opcodes::PCALL => several::upper_page(cpu, memory, reads, writes),
+            opcodes::RET => targets::pulled_word(cpu, memory, reads, writes),
+            opcodes::MOV_D_IMM => several::immediate_to_direct(cpu, memory, reads, writes),
+            opcodes::MOV_XINC_A => targets::aim(modes::ix(cpu)),
+            _ => implied(cpu),
+        },
+        0x14 | 0x1B => match opcode {
+            opcodes::MOV_DX_A | opcodes::MOV_DX_Y => targets::to_direct_x(
+                cpu,
+                memory,
+                reads,
+                writes,
+            ),
+            _ => loads::direct_x(cpu, memory, reads, writes),
+        },
+        0x15 => match opcode {
+            opcodes::MOV_ABSX_A => targets::to_absolute_x(cpu, memory, reads, writes),
+            _ => loads::absolute_x(cpu, memory, reads, writes),
+        },
+        0x16 => match opcode {
+            opcodes::MOV_ABSY_A => targets::to_absolute_y(cpu, memory, reads, writes),
+            _ => loads::absolute_y(cpu, memory, reads, writes),
+        },
+        0x17 => match opcode {
+            opcodes::MOV_IDY_A => targets::to_pointer_y(cpu, memory, reads, writes),
+            _ => loads::pointer_y(cpu, memory, reads, writes),
+        },
+        0x18 => match opcode {
+            opcodes::MOV_D_X => targets::to_direct(cpu, memory, reads, writes),
+            opcodes::MOV_X_D => loads::direct(cpu, memory, reads, writes),
+            _ => several::direct_immediate(cpu, memory, reads, writes),
+        },
+        0x19 => match opcode {
+            opcodes::MOV_DY_X => targets::to_direct_y(cpu, memory, reads, writes),
+            opcodes::MOV_X_DY => loads::direct_y(cpu, memory, reads, writes),
+            _ => several::at_x_at_y(cpu, memory, reads, writes),
+        },
+        0x1A => match opcode {
+            opcodes::MOVW_D_YA => several::to_direct_word(cpu, memory, reads, writes),
+            opcodes::MOV_D_D => several::direct_to_direct(cpu, memory, reads, writes),
+            _ => several::direct_word(cpu, memory, reads, writes),
+        },
+        0x1C => implied(cpu),
+        0x1E => match opcode {
+            opcodes::CMP_X_ABS | opcodes::CMP_Y_ABS => loads::absolute(cpu, memory, reads, writes),
+            opcodes::CMP_X_D | opcodes::CMP_Y_D => loads::direct(cpu, memory, reads, writes),
+            opcodes::CBNE_DX_R => loads::direct_x(cpu, memory, reads, writes),
+            _ => implied(cpu),
+        },
+        _ => match opcode {
             opcodes::JMP_IAX => targets::word_at_x(cpu, memory, reads, writes),
             opcodes::CALL_ABS | opcodes::JMP_ABS => targets::to_absolute(
                 cpu,
@@ -166,50 +129,22 @@ pub fn gather(
                 reads,
                 writes,
             ),
-            opcodes::PCALL => several::upper_page(cpu, memory, reads, writes),
-            opcodes::RET => targets::pulled_word(cpu, memory, reads, writes),
             opcodes::RETI => several::pulled_three(cpu, memory, reads, writes),
-            opcodes::POP_PSW | opcodes::POP_A | opcodes::POP_X | opcodes::POP_Y => several::pulled(
-                cpu,
-                memory,
-                reads,
-                writes,
-            ),
-            opcodes::MOV_D_IMM => several::immediate_to_direct(cpu, memory, reads, writes),
-            opcodes::MOV_XINC_A | opcodes::MOV_IX_A => targets::aim(modes::ix(cpu)),
-            opcodes::MOV_D_A | opcodes::MOV_D_Y | opcodes::MOV_D_X => targets::to_direct(
-                cpu,
-                memory,
-                reads,
-                writes,
-            ),
-            opcodes::MOV_ABS_A | opcodes::MOV_ABS_X | opcodes::MOV_ABS_Y => targets::to_absolute(
-                cpu,
-                memory,
-                reads,
-                writes,
-            ),
-            opcodes::MOV_IDX_A => targets::to_pointer_x(cpu, memory, reads, writes),
-            opcodes::MOV_DX_A | opcodes::MOV_DX_Y => targets::to_direct_x(
-                cpu,
-                memory,
-                reads,
-                writes,
-            ),
-            opcodes::MOV_ABSX_A => targets::to_absolute_x(cpu, memory, reads, writes),
-            opcodes::MOV_ABSY_A => targets::to_absolute_y(cpu, memory, reads, writes),
-            opcodes::MOV_IDY_A => targets::to_pointer_y(cpu, memory, reads, writes),
-            opcodes::MOV_DY_X => targets::to_direct_y(cpu, memory, reads, writes),
-            opcodes::MOVW_D_YA => several::to_direct_word(cpu, memory, reads, writes),
-            opcodes::MOV_X_DY => loads::direct_y(cpu, memory, reads, writes),
-            opcodes::MOV_D_D => several::direct_to_direct(cpu, memory, reads, writes),
-            _ => Operands {
-                cpu,
-                at: 0,
-                next: 0,
-                low: 0,
-                high: 0,
-            },
+            opcodes::MOV_A_XINC => loads::at_x(cpu, memory, reads, writes),
+            _ => implied(cpu),
         },
+    }
+}
+
+// Nothing is read.
+fn implied(cpu: Processor) -> Operands
+    ensures { λ r. ⌜ r ≡ operands cpu 0 0 0 0 ⌝ }
+{
+    Operands {
+        cpu,
+        at: 0,
+        next: 0,
+        low: 0,
+        high: 0,
     }
 }

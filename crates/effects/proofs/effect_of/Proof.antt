@@ -48,7 +48,8 @@ others =
     (10 ∷ 26 ∷ []) ∷
     (8 ∷ 28 ∷ []) ∷
     (0 ∷ 16 ∷ []) ∷
-    (27 ∷ []) ∷
+    (12 ∷ []) ∷
+    (11 ∷ 27 ∷ []) ∷
     (9 ∷ []) ∷
     (1 ∷ 17 ∷ []) ∷
     (19 ∷ []) ∷
@@ -73,9 +74,6 @@ named js ks t start one = there js (λ k. hasKey ks (bitAnd k 31)) t (start .arg
 abbrev accumulators : List ℕ
 accumulators = 4 ∷ 5 ∷ 6 ∷ 7 ∷ 20 ∷ 21 ∷ 22 ∷ 23 ∷ []
 
-abbrev shifted : List ℕ
-shifted = 11 ∷ 12 ∷ 27 ∷ []
-
 abbrev paired : List ℕ
 paired = 9 ∷ 24 ∷ 25 ∷ []
 
@@ -94,35 +92,38 @@ bbc-requires c κs = search needs
 call-requires : tie.Need-call-requires
 call-requires c κs = search needs
 
+shifts-requires : tie.Need-shifts-requires
+shifts-requires c κs = search needs
+
+shifts-requires-2 : tie.Need-shifts-requires-2
+shifts-requires-2 c κs = search needs
+
 column-0-requires : tie.Need-column-0-requires
-column-0-requires c κs = there (0 ∷ 16 ∷ []) (inColumn 0) tt (c .before .args .opcode) (omega arith) (c .match .keys8)
+column-0-requires c κs = there (0 ∷ 16 ∷ []) (inColumn 0) tt (c .before .args .opcode) (omega arith) (c .match .keys9)
 
 column-8-requires : tie.Need-column-8-requires
-column-8-requires c κs = there (8 ∷ 28 ∷ []) (inColumn 8) tt (c .before .args .opcode) (omega arith) (c .match .keys9)
+column-8-requires c κs = there (8 ∷ 28 ∷ []) (inColumn 8) tt (c .before .args .opcode) (omega arith) (c .match .keys10)
 
 column-a-requires : tie.Need-column-a-requires
-column-a-requires c κs = there (10 ∷ 26 ∷ []) (inColumn 10) tt (c .before .args .opcode) (omega arith) (c .match .keys10)
+column-a-requires c κs = there (10 ∷ 26 ∷ []) (inColumn 10) tt (c .before .args .opcode) (omega arith) (c .match .keys11)
 
 column-d-requires : tie.Need-column-d-requires
-column-d-requires c κs = there (13 ∷ 29 ∷ []) (inColumn 13) tt (c .before .args .opcode) (omega arith) (c .match .keys11)
+column-d-requires c κs = there (13 ∷ 29 ∷ []) (inColumn 13) tt (c .before .args .opcode) (omega arith) (c .match .keys12)
 
 column-e-requires : tie.Need-column-e-requires
-column-e-requires c κs = there (14 ∷ 30 ∷ []) (inColumn 14) tt (c .before .args .opcode) (omega arith) (c .match .keys12)
+column-e-requires c κs = there (14 ∷ 30 ∷ []) (inColumn 14) tt (c .before .args .opcode) (omega arith) (c .match .keys13)
 
 column-f-requires : tie.Need-column-f-requires
 column-f-requires c κs =
-    let start = c .before .before .before .before in
-    let none = c .before .before .before .match .rest in
+    let start = c .before .before .before in
+    let none = c .before .before .match .rest in
     ⊎-elim
-    (λ t. between others 13 16 (inColumn 15) tt (start .args .opcode) (omega arith) none (c .before .if2 .left) (t .taken))
+    (λ t. between others 8 16 (inColumn 15) tt (start .args .opcode) (omega arith) none (c .before .if1 .left) (t .taken))
     (λ t. between others 26 256 (inColumn 15) tt (start .args .opcode) (omega arith) none (t .2 .left) (omega (arith, and-le-l (start .args .opcode) 31)))
-    (c .if3 .came)
+    (c .if2 .came)
 
 accumulator-requires : tie.Need-accumulator-requires
 accumulator-requires c κs = search needs
-
-shifts-requires : tie.Need-shifts-requires
-shifts-requires c κs = search needs
 
 pairs-requires : tie.Need-pairs-requires
 pairs-requires c κs = search needs
@@ -148,10 +149,12 @@ unfolding rows effectOf
 returns-5 c = c .call .ensures ∙ named-arm (1 ∷ 17 ∷ []) (λ k. effectOf call 0) refl (c .before .before) (c .before .match .keys5)
 
 returns-6 : tie.Need-returns-6
-returns-6 c = search needs
+unfolding rows effectOf
+returns-6 c = c .shifts .ensures ∙ named-arm (11 ∷ 27 ∷ []) (family shiftGroup) refl (c .before .before) (c .before .match .keys7)
 
 returns-7 : tie.Need-returns-7
-returns-7 c = search needs
+unfolding rows effectOf
+returns-7 c = c .shifts2 .ensures ∙ named-arm (12 ∷ []) (family shiftGroup) refl (c .before .before) (c .before .match .keys8)
 
 returns-8 : tie.Need-returns-8
 returns-8 c = search needs
@@ -166,37 +169,32 @@ returns-11 : tie.Need-returns-11
 returns-11 c = search needs
 
 returns-12 : tie.Need-returns-12
+returns-12 c = search needs
+
+returns-13 : tie.Need-returns-13
+returns-13 c = search needs
+
+returns-14 : tie.Need-returns-14
 unfolding rows effectOf
-returns-12 c =
+returns-14 c =
     let start = c .before .before .before in
     let none = c .before .before .match .rest in
     c .accumulator .ensures
     ∙ arm accumulators (family accumulatorGroup) refl start
     (⊎-elim
     (λ t. left-in accumulators 0 8 tt start none (omega arith) (t .taken))
-    (λ t. left-in accumulators 16 24 tt start none (t .2 .left) (t .3 .taken))
+    (λ t. left-in accumulators 16 24 tt start none (t .1 .left) (t .2 .taken))
     (c .before .if1 .came))
 
-returns-13 : tie.Need-returns-13
+returns-15 : tie.Need-returns-15
 unfolding rows effectOf
-returns-13 c =
-    let start = c .before .before in
-    c .shifts .ensures
-    ∙ arm shifted (family shiftGroup) refl start
-    (⊎-elim
-    (λ t. named (27 ∷ []) shifted tt start (t .keys7))
-    (λ t. left-in shifted 8 13 tt start (t .0 .rest) (t .1 .left) (t .2 .taken))
-    (c .before .match .came))
-
-returns-14 : tie.Need-returns-14
-unfolding rows effectOf
-returns-14 c =
+returns-15 c =
     let start = c .before .before in
     c .pairs .ensures
     ∙ arm paired (family pairGroup) refl start
     (⊎-elim
     (λ t. named (9 ∷ []) paired tt start (t .keys6))
-    (λ t. left-in paired 24 26 tt start (t .0 .rest) (t .4 .left) (t .5 .taken))
+    (λ t. left-in paired 24 26 tt start (t .0 .rest) (t .3 .left) (t .4 .taken))
     (c .before .match .came))
 
 pub effect-of-spec : {M : Type 1} → statement M
@@ -208,6 +206,8 @@ effect-of-spec =
     bbs-requires
     bbc-requires
     call-requires
+    shifts-requires
+    shifts-requires-2
     column-0-requires
     column-8-requires
     column-a-requires
@@ -215,7 +215,6 @@ effect-of-spec =
     column-e-requires
     column-f-requires
     accumulator-requires
-    shifts-requires
     pairs-requires
     returns
     returns-2
@@ -230,4 +229,5 @@ effect-of-spec =
     returns-11
     returns-12
     returns-13
-    returns-14)
+    returns-14
+    returns-15)
