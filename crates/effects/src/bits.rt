@@ -1,7 +1,8 @@
 // Single bits: of a byte in memory, and of the status word.
 ghost use mathlib.Core.Bool.{true, false};
 ghost use mathlib.Core.Path.{_≡_};
-ghost use Rattle.instructions.specs.Effects.{bitIn, hasBit, withBit, withP, withI, withB, withoutVH};
+ghost use Rattle.instructions.specs.Effects.{bitIn, hasBit, withBit};
+ghost use Rattle.psw.specs.Flags.{withVH, withP, withB, withI};
 use psw::ProgramStatusWord;
 
 // The value of the bit whose number stands in the opcode's top three bits.
@@ -41,7 +42,7 @@ pub fn with_i(mut psw: ProgramStatusWord, on: bool) -> ProgramStatusWord
 }
 
 pub fn without_vh(mut psw: ProgramStatusWord) -> ProgramStatusWord
-    ensures { λ r. ⌜ r ≡ withoutVH psw ⌝ }
+    ensures { λ r. ⌜ r ≡ withVH false false psw ⌝ }
 {
     psw.v = false;
     psw.h = false;

@@ -2,7 +2,7 @@
 ghost use lib.Dec.{T};
 ghost use mathlib.Core.Path.{_≡_};
 ghost use Rattle.instructions.specs.Rows.{rowOf};
-ghost use Rattle.instructions.specs.Effects.{effectOf, bitRead};
+ghost use Rattle.instructions.specs.Effects.{effectOf, namedBit};
 ghost use Rattle.instructions.specs.Rows.Operation.{and1, and1N, or1, or1N, eor1, not1, loadC, storeC, loadYA};
 ghost use Rattle.effects.specs.Columns.{inColumn};
 use crate::bits;
@@ -42,8 +42,8 @@ pub fn column_a(opcode: u8, o: Operands) -> Effect
 }
 
 // The bit that Mb names.
-fn bit_read(o: Operands) -> bool
-    ensures { λ r. ⌜ r ≡ bitRead o ⌝ }
+fn named_bit(o: Operands) -> bool
+    ensures { λ r. ⌜ r ≡ namedBit o ⌝ }
 {
     bits::has_bit(o.low, o.high)
 }
@@ -53,7 +53,7 @@ fn and1(o: Operands) -> Effect
     ensures { λ r. ⌜ r ≡ effectOf and1 0 o ⌝ }
 {
     let cpu = o.cpu;
-    set_c(cpu, cpu.psw.c & bit_read(o))
+    set_c(cpu, cpu.psw.c & named_bit(o))
 }
 
 // AND1 C, Nmb
@@ -61,7 +61,7 @@ fn and1_not(o: Operands) -> Effect
     ensures { λ r. ⌜ r ≡ effectOf and1N 0 o ⌝ }
 {
     let cpu = o.cpu;
-    set_c(cpu, cpu.psw.c & !bit_read(o))
+    set_c(cpu, cpu.psw.c & !named_bit(o))
 }
 
 // OR1 C, Mb
@@ -69,7 +69,7 @@ fn or1(o: Operands) -> Effect
     ensures { λ r. ⌜ r ≡ effectOf or1 0 o ⌝ }
 {
     let cpu = o.cpu;
-    set_c(cpu, cpu.psw.c | bit_read(o))
+    set_c(cpu, cpu.psw.c | named_bit(o))
 }
 
 // OR1 C, Nmb
@@ -77,7 +77,7 @@ fn or1_not(o: Operands) -> Effect
     ensures { λ r. ⌜ r ≡ effectOf or1N 0 o ⌝ }
 {
     let cpu = o.cpu;
-    set_c(cpu, cpu.psw.c | !bit_read(o))
+    set_c(cpu, cpu.psw.c | !named_bit(o))
 }
 
 // EOR1 C, Mb
@@ -85,7 +85,7 @@ fn eor1(o: Operands) -> Effect
     ensures { λ r. ⌜ r ≡ effectOf eor1 0 o ⌝ }
 {
     let cpu = o.cpu;
-    let bit = bit_read(o);
+    let bit = named_bit(o);
     if cpu.psw.c {
         set_c(cpu, !bit)
     } else {
@@ -105,7 +105,7 @@ fn load_c(o: Operands) -> Effect
     ensures { λ r. ⌜ r ≡ effectOf loadC 0 o ⌝ }
 {
     let cpu = o.cpu;
-    set_c(cpu, bit_read(o))
+    set_c(cpu, named_bit(o))
 }
 
 // MOV1 Mb, C

@@ -1,8 +1,7 @@
 // Kinds of effect: where what an operation produced goes.
 ghost use mathlib.Core.Path.{_≡_};
 ghost use mathlib.Core.Bool.{false};
-ghost use Rattle.processor.specs.Record.{withFlags, withA, withCarry};
-ghost use Rattle.modes.specs.Addresses.{withPc, withSp};
+ghost use Rattle.processor.specs.Record.{withFlags, withA, withX, withY, withSp, withPc, withCarry};
 ghost use Rattle.instructions.specs.Effects as effects;
 use instructions::Effect;
 use instructions::Operands;
@@ -57,14 +56,14 @@ pub fn set_a(mut cpu: Processor, byte: u8) -> Effect
 }
 
 pub fn set_x(mut cpu: Processor, byte: u8) -> Effect
-    ensures { λ r. ⌜ r ≡ effects.registers (effects.withX byte cpu) ⌝ }
+    ensures { λ r. ⌜ r ≡ effects.registers (withX byte cpu) ⌝ }
 {
     cpu.x = byte;
     registers(cpu)
 }
 
 pub fn set_y(mut cpu: Processor, byte: u8) -> Effect
-    ensures { λ r. ⌜ r ≡ effects.registers (effects.withY byte cpu) ⌝ }
+    ensures { λ r. ⌜ r ≡ effects.registers (withY byte cpu) ⌝ }
 {
     cpu.y = byte;
     registers(cpu)

@@ -11,9 +11,9 @@ use lib.Pow.{pow-lt}
 use borrow.Author.Tests.{ltb-true}
 use Rattle.psw.specs.Status.{oneIf, byteOf}
 use Rattle.psw.specs.declared.ProgramStatusWord.{ProgramStatusWord}
-use Rattle.processor.specs.Record.{withFlags, withA, wordOf}
+use Rattle.processor.specs.Record.{withFlags, withA, wordOf, loadedA}
 use Rattle.processor.specs.Products.{divided, divOf}
-use Rattle.processor.specs.Decimal.{loadedA, highAdjusted, daaOf, highReduced, dasOf}
+use Rattle.processor.specs.Decimal.{highAdjusted, daaOf, highReduced, dasOf}
 use Rattle.processor.specs.declared.Processor.{Processor}
 use Rattle.instructions.specs.Effects.{withBit, bitIn}
 use Rattle.instructions.proofs.Parts.{below-256}

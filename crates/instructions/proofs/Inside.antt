@@ -4,8 +4,8 @@ use Prim.Native.Nat.{ℕ, _/_, _%_, _<_}
 use mathlib.Core.Bool.{Bool, true, false, cond}
 use native.Mathlib.Omega.{arith}
 use lib.Dec.{ltb}
+use Rattle.processor.specs.Record.{withPc}
 use Rattle.processor.specs.declared.Processor.{Processor}
-use Rattle.modes.specs.Addresses.{withPc}
 use Rattle.modes.specs.Branches.{branched}
 use Rattle.modes.specs.Stack.{push, pushWord, called}
 use Rattle.instructions.specs.Rows.{rowOf}

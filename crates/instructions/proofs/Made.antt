@@ -3,11 +3,11 @@
 use Prim.Native.Nat.{ℕ, _/_, _%_, _<_}
 use mathlib.Core.Bool.{true, false, cond}
 use native.Mathlib.Omega.{arith}
-use Rattle.processor.specs.Record.{withA, withYA}
-use Rattle.modes.specs.Addresses.{withPc, onward}
+use Rattle.processor.specs.Record.{withA, withX, withY, withPc, withYA}
+use Rattle.modes.specs.Addresses.{onward}
 use Rattle.instructions.specs.Rows.{Operation}
 use Rattle.instructions.specs.Rows.Operation.{nop, sleep, stop, orA, andA, eorA, cmpA, adcA, sbcA, orM, andM, eorM, cmpM, adcM, sbcM, cmpX, cmpY, aslA, rolA, lsrA, rorA, decA, incA, aslM, rolM, lsrM, rorM, decM, incM, decX, incX, decY, incY, loadA, loadX, loadY, loadAInc, storeA, storeX, storeY, storeAInc, storeByte, movAX, movAY, movXA, movYA, movXSP, movSPX, loadYA, storeYA, addw, subw, cmpw, incw, decw, mul, div, daa, das, xcn, tset1, tclr1, set1, clr1, and1, and1N, or1, or1N, eor1, not1, loadC, storeC, clrc, setc, notc, clrv, clrp, setp, ei, di, bpl, bmi, bvc, bvs, bcc, bcs, bne, beq, bra, bbs, bbc, cbne, dbnzM, dbnzY, jmp, call, brk, reti, pushA, pushX, pushY, pushPsw, popA, popX, popY, popPsw}
-use Rattle.instructions.specs.Effects.{withX, withY, effectOf}
+use Rattle.instructions.specs.Effects.{effectOf}
 use Rattle.instructions.specs.declared.Operands.{Operands}
 use Rattle.instructions.specs.declared.Effect.{Effect}
 use Rattle.instructions.specs.declared.Stores.{Stores}

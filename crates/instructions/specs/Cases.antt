@@ -1,19 +1,22 @@
 -- The sixteen worked cases of document 01, and one statement that proves them all by computing.
+-- Assumes nothing.
 use Prim.Native.Nat.{ℕ, _+_, _*_}
 use mathlib.Core.Path.{_≡_, refl}
 use mathlib.Core.List.{List, [], _∷_}
 use Rattle.signed.specs.Displacement.{targetOf}
 use Rattle.psw.specs.Status.{byteOf, flagsOf}
+use Rattle.processor.specs.Record.{wordOf}
 use Rattle.processor.specs.Sums.{leaves, adcOf, sbcOf}
 use Rattle.processor.specs.Shifts.{aslOf, rolOf}
 use Rattle.processor.specs.Products.{divOf}
 use Rattle.processor.specs.Decimal.{daaOf, dasOf}
 use Rattle.processor.specs.declared.Processor.{Processor}
 use Rattle.processor.specs.declared.Produced.{Produced}
-use Rattle.memory.specs.Access.{Access}
+use Rattle.memory.specs.Access.{then}
 use Rattle.memory.specs.Access.Access.{done, readAt, storeAt}
 use Rattle.memory.specs.Words.{readWord}
-use Rattle.modes.specs.Addresses.{directAt, bitAddress, bitNumber}
+use Rattle.modes.specs.Addresses.{directAt, absoluteAt, bitAddress, bitNumber}
+use Rattle.modes.specs.Modes.{addressed, pointed}
 use Rattle.modes.specs.Stack.{push}
 
 -- what a definition gives, and what the document says
@@ -66,14 +69,14 @@ cases =
     -- 13. a push at SP=00: store at 0100, SP=FF
     (push 0x55 (cpu 0 0 0 0x00 0) is storeAt 0x0100 0x55 (done (cpu 0 0 0 0xFF 0))) ∷
     -- 14. Mb bytes 34 B2: 1234, bit 5
-    (bitAddress 0xB234 ∷ bitNumber 0xB234 ∷ [] is 0x1234 ∷ 5 ∷ []) ∷
+    (bitAddress (wordOf 0x34 0xB2) ∷ bitNumber (wordOf 0x34 0xB2) ∷ [] is 0x1234 ∷ 5 ∷ []) ∷
     -- 15. d+X, byte F0, X=20, P: 0110
     (directAt (flagsOf 0b0010_0000) 0xF0 0x20 is 0x0110) ∷
     -- 16. [d]+Y at 00FF: pointer bytes 00FF, 0100
-    (readWord 0x00FF is readAt 0x00FF (λ low. readAt 0x0100 (λ high. done (high * 256 + low)))) ∷
+    (pointed 0 (addressed (cpu 0 0 0 0 0) 0x00FF) is readAt 0x00FF (λ low. readAt 0x0100 (λ high. done (addressed (cpu 0 0 0 0 0) (absoluteAt (wordOf low high) 0))))) ∷
     []
 
 pub sixteen-cases : All cases
-unfolding cases byteOf flagsOf leaves push readWord
+unfolding cases byteOf flagsOf leaves push pointed readWord then
 sixteen-cases =
     (refl, (refl, (refl, (refl, (refl, (refl, (refl, (refl, (refl, (refl, (refl, (refl, (refl, (refl, (refl, (refl, tt))))))))))))))))

@@ -4,9 +4,10 @@ use Prim.Native.Nat.{ℕ, _+_, _-_, _*_, _/_, _%_, _^_}
 use mathlib.Core.Bool.{Bool, true, false, cond, not, _&&_, _||_}
 use lib.Bits.{bitAnd, bitOr, bitXor}
 use lib.Dec.{eqb}
+use Rattle.psw.specs.Flags.{withVH, withP, withB, withI}
 use Rattle.psw.specs.Status.{byteOf, flagsOf}
 use Rattle.psw.specs.declared.ProgramStatusWord.{ProgramStatusWord}
-use Rattle.processor.specs.Record.{withFlags, withA, withYA, withCarry, wordOf, minus, nzWordOf}
+use Rattle.processor.specs.Record.{withFlags, withA, withX, withY, withSp, withPc, withYA, withCarry, wordOf, minus, nzWordOf}
 use Rattle.processor.specs.Sums.{adcOf, sbcOf, cmpOf, incOf, decOf}
 use Rattle.processor.specs.Logic.{movOf, orOf, andOf, eorOf, tsetOf, tclrOf}
 use Rattle.processor.specs.Shifts.{aslOf, lsrOf, rolOf, rorOf}
@@ -16,7 +17,7 @@ use Rattle.processor.specs.Decimal.{daaOf, dasOf, xcnOf}
 use Rattle.processor.specs.declared.Processor.{Processor}
 use Rattle.processor.specs.declared.Produced.{Produced}
 use Rattle.processor.specs.declared.ProducedWord.{ProducedWord}
-use Rattle.modes.specs.Addresses.{withPc, withSp, onward}
+use Rattle.modes.specs.Addresses.{onward}
 use Rattle.instructions.specs.Rows.{Operation}
 use Rattle.instructions.specs.Rows.Operation.{nop, sleep, stop, orA, andA, eorA, cmpA, adcA, sbcA, orM, andM, eorM, cmpM, adcM, sbcM, cmpX, cmpY, aslA, rolA, lsrA, rorA, decA, incA, aslM, rolM, lsrM, rorM, decM, incM, decX, incX, decY, incY, loadA, loadX, loadY, loadAInc, storeA, storeX, storeY, storeAInc, storeByte, movAX, movAY, movXA, movYA, movXSP, movSPX, loadYA, storeYA, addw, subw, cmpw, incw, decw, mul, div, daa, das, xcn, tset1, tclr1, set1, clr1, and1, and1N, or1, or1N, eor1, not1, loadC, storeC, clrc, setc, notc, clrv, clrp, setp, ei, di, bpl, bmi, bvc, bvs, bcc, bcs, bne, beq, bra, bbs, bbc, cbne, dbnzM, dbnzY, jmp, call, brk, reti, pushA, pushX, pushY, pushPsw, popA, popX, popY, popPsw}
 use Rattle.instructions.specs.declared.Operands.{Operands}
@@ -35,12 +36,6 @@ registers cpu = effect cpu Nothing false 0
 
 abbrev pub storing : Stores → Processor → Effect
 storing stores cpu = effect cpu stores false 0
-
-abbrev pub withX : ℕ → Processor → Processor
-withX x cpu = record { a = cpu .a; x = x; y = cpu .y; sp = cpu .sp; pc = cpu .pc; psw = cpu .psw }
-
-abbrev pub withY : ℕ → Processor → Processor
-withY y cpu = record { a = cpu .a; x = cpu .x; y = y; sp = cpu .sp; pc = cpu .pc; psw = cpu .psw }
 
 -- a produced byte goes into A, X, Y or memory; a produced word into memory
 abbrev pub intoA : Produced → Effect
@@ -87,9 +82,9 @@ withBit false bit byte = bitAnd byte (255 - bit)
 abbrev pub bitIn : ℕ → ℕ
 bitIn opcode = 2 ^ (opcode / 32)
 
--- the bit that Mb names
-abbrev pub bitRead : Operands → Bool
-bitRead o = hasBit (o .high) (o .low)
+-- the bit that Mb names, as it was read
+abbrev pub namedBit : Operands → Bool
+namedBit o = hasBit (o .high) (o .low)
 
 abbrev pub carryInto : Bool → Operands → Effect
 carryInto c o = registers (withCarry c (o .cpu))
@@ -97,19 +92,6 @@ carryInto c o = registers (withCarry c (o .cpu))
 abbrev pub differs : Bool → Bool → Bool
 differs true b = not b
 differs false b = b
-
-abbrev pub withP : Bool → ProgramStatusWord → ProgramStatusWord
-withP p psw = record { n = psw .n; v = psw .v; p = p; b = psw .b; h = psw .h; i = psw .i; z = psw .z; c = psw .c }
-
-abbrev pub withI : Bool → ProgramStatusWord → ProgramStatusWord
-withI i psw = record { n = psw .n; v = psw .v; p = psw .p; b = psw .b; h = psw .h; i = i; z = psw .z; c = psw .c }
-
-abbrev pub withB : Bool → ProgramStatusWord → ProgramStatusWord
-withB b psw = record { n = psw .n; v = psw .v; p = psw .p; b = b; h = psw .h; i = psw .i; z = psw .z; c = psw .c }
-
--- CLRV clears V and H.
-abbrev pub withoutVH : ProgramStatusWord → ProgramStatusWord
-withoutVH psw = record { n = psw .n; v = false; p = psw .p; b = psw .b; h = false; i = psw .i; z = psw .z; c = psw .c }
 
 abbrev pub flagged : Operands → ProgramStatusWord → Effect
 flagged o psw = registers (withFlags psw (o .cpu))
@@ -135,6 +117,7 @@ effectOf eorM k o = intoMemory (o .at) (eorOf (o .cpu) (o .high) (o .low))
 effectOf cmpM k o = registers (cmpOf (o .cpu) (o .high) (o .low))
 effectOf adcM k o = intoMemory (o .at) (adcOf (o .cpu) (o .high) (o .low))
 effectOf sbcM k o = intoMemory (o .at) (sbcOf (o .cpu) (o .high) (o .low))
+-- X and Y with a byte
 effectOf cmpX k o = registers (cmpOf (o .cpu) (o .cpu .x) (o .low))
 effectOf cmpY k o = registers (cmpOf (o .cpu) (o .cpu .y) (o .low))
 -- shifts, DEC and INC
@@ -178,29 +161,30 @@ effectOf subw k o = registers (subwOf (o .cpu) (o .low) (o .high))
 effectOf cmpw k o = registers (cmpwOf (o .cpu) (o .low) (o .high))
 effectOf incw k o = intoWord o (incwOf (o .cpu) (o .low) (o .high))
 effectOf decw k o = intoWord o (decwOf (o .cpu) (o .low) (o .high))
+-- products, and the digits of A
 effectOf mul k o = registers (mulOf (o .cpu))
 effectOf div k o = registers (divOf (o .cpu))
 effectOf daa k o = registers (daaOf (o .cpu))
 effectOf das k o = registers (dasOf (o .cpu))
 effectOf xcn k o = registers (xcnOf (o .cpu))
--- bits: C only, or memory only; Nmb inverts the bit read
+-- bits: TSET1 and TCLR1 set N Z; the others change C only, or memory only; Nmb inverts the bit read
 effectOf tset1 k o = intoMemory (o .at) (tsetOf (o .cpu) (o .low))
 effectOf tclr1 k o = intoMemory (o .at) (tclrOf (o .cpu) (o .low))
 effectOf set1 k o = storingByte o (withBit true (bitIn k) (o .low))
 effectOf clr1 k o = storingByte o (withBit false (bitIn k) (o .low))
-effectOf and1 k o = carryInto (o .cpu .psw .c && bitRead o) o
-effectOf and1N k o = carryInto (o .cpu .psw .c && not (bitRead o)) o
-effectOf or1 k o = carryInto (o .cpu .psw .c || bitRead o) o
-effectOf or1N k o = carryInto (o .cpu .psw .c || not (bitRead o)) o
-effectOf eor1 k o = carryInto (differs (o .cpu .psw .c) (bitRead o)) o
+effectOf and1 k o = carryInto (o .cpu .psw .c && namedBit o) o
+effectOf and1N k o = carryInto (o .cpu .psw .c && not (namedBit o)) o
+effectOf or1 k o = carryInto (o .cpu .psw .c || namedBit o) o
+effectOf or1N k o = carryInto (o .cpu .psw .c || not (namedBit o)) o
+effectOf eor1 k o = carryInto (differs (o .cpu .psw .c) (namedBit o)) o
 effectOf not1 k o = storingByte o (bitXor (o .low) (o .high))
-effectOf loadC k o = carryInto (bitRead o) o
+effectOf loadC k o = carryInto (namedBit o) o
 effectOf storeC k o = storingByte o (withBit (o .cpu .psw .c) (o .high) (o .low))
--- flags
+-- flags: CLRV clears V and H
 effectOf clrc k o = carryInto false o
 effectOf setc k o = carryInto true o
 effectOf notc k o = carryInto (not (o .cpu .psw .c)) o
-effectOf clrv k o = flagged o (withoutVH (o .cpu .psw))
+effectOf clrv k o = flagged o (withVH false false (o .cpu .psw))
 effectOf clrp k o = flagged o (withP false (o .cpu .psw))
 effectOf setp k o = flagged o (withP true (o .cpu .psw))
 effectOf ei k o = flagged o (withI true (o .cpu .psw))

@@ -1,4 +1,4 @@
--- The one instruction that reads after a store: DBNZ on memory.
+-- DBNZ on memory stores before it reads its displacement.
 -- Assumes nothing.
 use mathlib.Core.Path.{_≡_, refl}
 use mathlib.Core.Bool.{Bool, true, false, cond, not}
@@ -7,8 +7,8 @@ use Rattle.memory.specs.Access.Access.{done, readAt, storeAt}
 use Rattle.memory.specs.Access.{then}
 use Rattle.memory.specs.Words.{nextOf}
 use Rattle.signed.specs.Displacement.{targetOf}
-use Rattle.processor.specs.Record.{minus}
-use Rattle.modes.specs.Addresses.{withPc, onward}
+use Rattle.processor.specs.Record.{withPc, minus}
+use Rattle.modes.specs.Addresses.{onward}
 use Rattle.modes.specs.Branches.{branched}
 use Rattle.modes.specs.Modes.{fetch}
 use Rattle.instructions.specs.Rows.{rows}

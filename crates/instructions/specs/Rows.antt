@@ -330,5 +330,6 @@ rows =
     row stop implied ∷
     []
 
+-- an opcode's row; there are 256, so the default is never taken
 abbrev pub rowOf : ℕ → Row
 rowOf opcode = getD rows opcode (row nop implied)

@@ -22,7 +22,7 @@ unfoldable pub turnBytes : List ℕ → ℕ
 turnBytes [] = 0
 turnBytes (opcode ∷ code) = cond (isCut (opcode ∷ code)) (length code + 1) (lengthOf opcode)
 
--- The lines of code bytes that stand at an address; so many of them belong to the instruction before. The address wraps at 65,536.
+-- The lines of code bytes that stand at an address, of which the first `before` belong to the instruction before. The address wraps at 65,536.
 unfoldable pub linesOf : ℕ → ℕ → List ℕ → List ℕ
 linesOf before address [] = []
 linesOf (suc before) address (byte ∷ code) = linesOf before ((address + 1) % 65536) code

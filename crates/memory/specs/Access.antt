@@ -37,6 +37,6 @@ perform (done x) w = record { result = x; left = w }
 perform (readAt a p) w = perform (p (byteAt a w)) (seen a w)
 perform (storeAt a byte p) w = perform p (kept a byte w)
 
--- Performing `p` on `w` gives `o`: the one form of every contract on memory.
+-- Performing `p` on `w` gives `o`: the form of every contract on memory, up to that of a whole instruction.
 pub record Does {R : Type 0} (p : Access R) (w : World) (o : Outcome World R) : Type 0 where
   pub is : o ≡ perform p w

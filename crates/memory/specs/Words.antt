@@ -9,5 +9,6 @@ nextOf at = (at + 1) % 65536
 unfoldable pub readWord : ℕ → Access ℕ
 readWord at = readAt at (λ low. readAt (nextOf at) (λ high. done (high * 256 + low)))
 
+-- No instruction uses it: the source prints it.
 unfoldable pub writeWord : ℕ → ℕ → Access Unit
 writeWord at word = storeAt at (word % 256) (storeAt (nextOf at) (word / 256) (done tt))

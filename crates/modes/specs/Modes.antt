@@ -1,11 +1,10 @@
 -- Address modes: what each reads, in order, and the address it finds. Operand bytes stand at PC.
 use Prim.Native.Nat.{ℕ, _+_, _*_, _/_, _%_, _^_}
-use mathlib.Core.Bool.{Bool}
-use lib.Dec.{eqb}
 use Rattle.memory.specs.Access.{Access, then}
 use Rattle.memory.specs.Access.Access.{done, readAt}
 use Rattle.memory.specs.Words.{readWord}
-use Rattle.processor.specs.Record.{produced}
+use Rattle.psw.specs.Status.{bitOf}
+use Rattle.processor.specs.Record.{wordOf, produced}
 use Rattle.processor.specs.declared.Processor.{Processor}
 use Rattle.processor.specs.declared.Produced.{Produced}
 use Rattle.modes.specs.Addresses.{directAt, absoluteAt, bitAddress, bitNumber, onward}
@@ -23,9 +22,9 @@ fetch cpu = readAt (cpu .pc) (λ byte. done (produced (onward cpu) byte))
 
 -- the word at PC, low byte first, with PC behind it
 unfoldable pub fetchWord : Processor → Access Addressed
-fetchWord cpu = then (fetch cpu) (λ low. then (fetch (low .cpu)) (λ high. done (addressed (high .cpu) (high .byte * 256 + low .byte))))
+fetchWord cpu = then (fetch cpu) (λ low. then (fetch (low .cpu)) (λ high. done (addressed (high .cpu) (wordOf (low .byte) (high .byte)))))
 
--- Immediate: the operand byte itself. Nothing is read yet.
+-- Immediate: the operand byte itself. Nothing is read yet. No instruction uses it: the source prints it.
 abbrev pub immediate : Processor → Addressed
 immediate cpu = addressed (onward cpu) (cpu .pc)
 
@@ -67,10 +66,6 @@ unfoldable pub bitOperand : Processor → Access BitAddressed
 bitOperand cpu =
     then (fetchWord cpu) (λ f. done (record { cpu = f .cpu; at = bitAddress (f .at); bit = bitNumber (f .at) }))
 
--- a bit of a byte
-abbrev pub bitOf : ℕ → ℕ → Bool
-bitOf bit byte = eqb (byte / 2 ^ bit % 2) 1
-
--- the bit that Mb names
+-- The bit that Mb names. No instruction uses it: the source prints it.
 unfoldable pub bitRead : Processor → Access BitRead
-bitRead cpu = then (bitOperand cpu) (λ m. readAt (m .at) (λ byte. done (record { cpu = m .cpu; bit = bitOf (m .bit) byte })))
+bitRead cpu = then (bitOperand cpu) (λ m. readAt (m .at) (λ byte. done (record { cpu = m .cpu; bit = bitOf (2 ^ (m .bit)) byte })))

@@ -2,10 +2,9 @@
 use Prim.Native.Nat.{ℕ, _+_, _*_, _/_, _%_}
 use Rattle.memory.specs.Access.{Access, then}
 use Rattle.memory.specs.Access.Access.{done, readAt, storeAt}
-use Rattle.processor.specs.Record.{minus, produced}
+use Rattle.processor.specs.Record.{withSp, withPc, wordOf, minus, produced}
 use Rattle.processor.specs.declared.Processor.{Processor}
 use Rattle.processor.specs.declared.Produced.{Produced}
-use Rattle.modes.specs.Addresses.{withPc, withSp}
 use Rattle.modes.specs.Modes.{addressed}
 use Rattle.modes.specs.declared.Addressed.{Addressed}
 
@@ -23,7 +22,7 @@ unfoldable pub pull : Processor → Access Produced
 pull cpu = readAt (0x100 + raised cpu .sp) (λ byte. done (produced (raised cpu) byte))
 
 unfoldable pub pullWord : Processor → Access Addressed
-pullWord cpu = then (pull cpu) (λ low. then (pull (low .cpu)) (λ high. done (addressed (high .cpu) (high .byte * 256 + low .byte))))
+pullWord cpu = then (pull cpu) (λ low. then (pull (low .cpu)) (λ high. done (addressed (high .cpu) (wordOf (low .byte) (high .byte)))))
 
 -- Calls push the return PC.
 unfoldable pub called : ℕ → Processor → Access Processor

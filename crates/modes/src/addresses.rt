@@ -1,10 +1,11 @@
 // Address modes.
-ghost use Prim.Native.Nat.{_≤_};
+ghost use Prim.Native.Nat.{_^_, _≤_};
 ghost use mathlib.Core.Path.{_≡_};
 ghost use Rattle.memory.specs.World.{Sized, world};
 ghost use Rattle.memory.specs.Access.{Does, outcome};
 ghost use Rattle.modes.specs.Addresses.{directAt, onward};
-ghost use Rattle.modes.specs.Modes.{fetch, fetchWord, immediate, direct, directWord, indirect, pointed, pointerX, pointerY, absolute, absolutePointer, bitOperand, bitOf, bitRead};
+ghost use Rattle.modes.specs.Modes.{fetch, fetchWord, immediate, direct, directWord, indirect, pointed, pointerX, pointerY, absolute, absolutePointer, bitOperand, bitRead};
+ghost use Rattle.psw.specs.Status.{bitOf};
 use crate::Addressed;
 use crate::BitAddressed;
 use crate::BitRead;
@@ -237,7 +238,7 @@ pub fn bit_operand(cpu: Processor, memory: &[u8], reads: &mut [u8], writes: &[u8
 // A bit of a byte.
 pub fn has_bit(byte: u8, bit: u8) -> bool
     requires { ⌜ bit ≤ 7 ⌝ }
-    ensures { λ r. ⌜ r ≡ bitOf bit byte ⌝ }
+    ensures { λ r. ⌜ r ≡ bitOf (2 ^ bit) byte ⌝ }
 {
     (byte >> bit) % 2 == 1
 }

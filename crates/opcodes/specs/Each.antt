@@ -1,4 +1,5 @@
--- Each of the 256 opcodes names exactly one instruction: one constant, or one masked family.
+-- Each of the 256 opcodes names exactly one instruction: one constant, or one masked family. (`under 0 1` names no opcode.)
+-- Assumes nothing.
 use Prim.Native.Nat.{ℕ, _<_}
 use lib.Dec.{eqb, eqb→eq}
 use Rattle.laws.specs.Below.{same-below}

@@ -2,12 +2,8 @@
 use Prim.Native.Nat.{ℕ, _+_, _*_, _/_, _%_}
 use mathlib.Core.Bool.{Bool, true, false, cond, not, _||_}
 use lib.Dec.{ltb}
-use Rattle.processor.specs.Record.{withA, withCarry, minus, nzOf}
+use Rattle.processor.specs.Record.{withA, withCarry, minus, loadedA}
 use Rattle.processor.specs.declared.Processor.{Processor}
-
--- A with N Z of it
-abbrev pub loadedA : Processor → ℕ → Processor
-loadedA cpu a = withA a (nzOf cpu a)
 
 -- DAA: if C or A > 0x99, add 0x60 and set C; then if H or the low nibble > 9, add 6.
 abbrev pub highAdjusted : Processor → Processor

@@ -21,7 +21,7 @@ outside z = ltZ z (negsuc 127) || ltZ (pos 127) z
 unfoldable pub leaves : ℕ → ℕ → ℕ → Bool
 leaves l r carry = outside (signedOf l +ℤ signedOf r +ℤ pos carry)
 
--- Carry and result form the nine-bit sum; V holds when the signed sum with carry leaves -128..127; H when low nibbles plus carry pass 15.
+-- ADC: carry and result form the nine-bit sum; V holds when the signed sum with carry leaves -128..127; H when low nibbles plus carry pass 15.
 abbrev pub sumFlags : ℕ → ℕ → ℕ → ProgramStatusWord → ProgramStatusWord
 sumFlags l r carry psw =
     nz ((l + r + carry) % 256) (withC (leb 256 (l + r + carry)) (withVH (leaves l r carry) (leb 16 (l % 16 + r % 16 + carry)) psw))

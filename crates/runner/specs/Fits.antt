@@ -21,8 +21,8 @@ use Rattle.memory.specs.Access.{Outcome}
 use Rattle.state.specs.Registers.{registersOf}
 use Rattle.engine.specs.declared.Ran.{Ran}
 use Rattle.runner.specs.Bounds.{Bytes, small}
-use Rattle.runner.specs.Session.{Session, budgetOf, runOn, openingOf, closingOf, sessionOf}
-use Rattle.runner.specs.Told.{Tells, reported}
+use Rattle.runner.specs.Session.{Session, budgetOf, runOn, openingOf, closingOf, sessionOf, reported}
+use Rattle.runner.specs.Told.{Tells}
 use Rattle.runner.specs.declared.Report.{Report}
 
 pub record Fits (s : Session) : Type 0 where

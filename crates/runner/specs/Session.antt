@@ -7,6 +7,7 @@ use lib.ListN.{length, getD, take, drop}
 use Rattle.text.specs.Digits.{decimal}
 use Rattle.text.specs.Quoted.{text}
 use Rattle.psw.specs.Status.{statusText}
+use Rattle.psw.specs.declared.ProgramStatusWord.{ProgramStatusWord}
 use Rattle.processor.specs.Text.{registersText}
 use Rattle.marks.specs.Maps.{marksIn}
 use Rattle.memory.specs.World.{World}
@@ -26,14 +27,11 @@ runOn input = played (budgetOf input) (registersOf (take 7 (drop 4 input))) (dro
 unfoldable pub openingOf : Ran → List ℕ
 openingOf r = text "stop " ++ decimal (r .stop) ++ text "\nsteps " ++ decimal (r .steps) ++ text "\n" ++ registersText (r .cpu) ++ text "\n"
 
+abbrev pub closingText : ProgramStatusWord → ℕ → ℕ → List ℕ
+closingText psw read written = statusText psw ++ text "\nread " ++ decimal read ++ text " written " ++ decimal written ++ text "\n"
+
 unfoldable pub closingOf : Outcome World Ran → List ℕ
-closingOf o =
-    statusText (o .result .cpu .psw)
-    ++ text "\nread "
-    ++ decimal (marksIn (o .left .reads))
-    ++ text " written "
-    ++ decimal (marksIn (o .left .writes))
-    ++ text "\n"
+closingOf o = closingText (o .result .cpu .psw) (marksIn (o .left .reads)) (marksIn (o .left .writes))
 
 -- what is printed, in two parts, and what is left in the bytes of the input, in which the run's memory stands
 pub record Session : Type 0 where
@@ -41,9 +39,13 @@ pub record Session : Type 0 where
   pub closing : List ℕ
   pub left : List ℕ
 
+-- The report of a run whose memory stands behind some bytes, which stay.
+abbrev pub reported : List ℕ → Outcome World Ran → Session
+reported before o = record { opening = openingOf (o .result); closing = closingOf o; left = before ++ o .left .memory }
+
 -- An input that is not 65,547 bytes gives the one line `refused 6`.
 unfoldable pub sessionOf : List ℕ → Session
 sessionOf input =
     cond (eqb (length input) 65547)
-    (record { opening = openingOf (runOn input .result); closing = closingOf (runOn input); left = take 11 input ++ runOn input .left .memory })
+    (reported (take 11 input) (runOn input))
     (record { opening = text "refused 6\n"; closing = []; left = input })

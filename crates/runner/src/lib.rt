@@ -6,8 +6,8 @@ ghost use mathlib.Core.Path.{_≡_};
 ghost use mathlib.Core.List.{[]};
 ghost use lib.ListN.{length, take};
 ghost use Rattle.engine.specs.Provenance.{played};
-ghost use Rattle.runner.specs.Session.{budgetOf, runOn, sessionOf};
-ghost use Rattle.runner.specs.Told.{Tells, reported};
+ghost use Rattle.runner.specs.Session.{budgetOf, runOn, reported, sessionOf};
+ghost use Rattle.runner.specs.Told.{Tells};
 use processor::Processor;
 use text::Line;
 

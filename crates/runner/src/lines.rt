@@ -1,8 +1,7 @@
 // The two lines of the report.
 ghost use mathlib.Core.Path.{_≡_};
 ghost use Rattle.text.specs.Line.{blank, adds};
-ghost use Rattle.runner.specs.Session.{openingOf};
-ghost use Rattle.runner.specs.Told.{closingText};
+ghost use Rattle.runner.specs.Session.{openingOf, closingText};
 use engine::Ran;
 use processor::Processor;
 use text::Line;

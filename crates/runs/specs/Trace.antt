@@ -11,16 +11,17 @@ pub data Event : Type 0 where
   read : ℕ → Event
   store : ℕ → ℕ → Event
 
--- accesses that are all below 65,536
+-- the address of an access
 abbrev pub addressOf : Event → ℕ
 addressOf (read a) = a
 addressOf (store a byte) = a
 
+-- accesses that are all below 65,536
 abbrev pub InMemory : List Event → Type 0
 InMemory [] = Unit
 InMemory (e ∷ t) = (addressOf e < 65536) × InMemory t
 
--- what performing makes of them
+-- the accesses that performing makes, in order
 unfoldable pub events : {R : Type 0} → Access R → World → List Event
 events (done x) w = []
 events (readAt a p) w = read a ∷ events (p (byteAt a w)) (seen a w)

@@ -13,8 +13,8 @@ use borrow.Rule.Slice.PartMut.{putMid, post-is}
 use Rattle.processor.specs.declared.Processor.{Processor}
 use Rattle.state.specs.Registers.{registersOf}
 use Rattle.engine.specs.Provenance.{played}
-use Rattle.runner.specs.Session.{budgetOf, runOn}
-use Rattle.runner.specs.Told.{Tells, reported}
+use Rattle.runner.specs.Session.{budgetOf, runOn, reported}
+use Rattle.runner.specs.Told.{Tells}
 use Rattle.runner.specs.declared.Report.{Report}
 use Rattle.runner.proofs.accepted.Statement.{statement}
 use Rattle.runner.proofs.accepted.Tie as tie

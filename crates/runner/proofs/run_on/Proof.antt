@@ -14,8 +14,8 @@ use Rattle.memory.specs.World.{World}
 use Rattle.memory.specs.Access.{Outcome, outcome}
 use Rattle.engine.specs.Provenance.{played}
 use Rattle.engine.specs.declared.Ran.{Ran}
-use Rattle.runner.specs.Session.{openingOf, closingOf}
-use Rattle.runner.specs.Told.{Tells, reported, closingText}
+use Rattle.runner.specs.Session.{openingOf, closingOf, reported, closingText}
+use Rattle.runner.specs.Told.{Tells}
 use Rattle.runner.proofs.run_on.Statement.{statement}
 use Rattle.runner.proofs.run_on.Tie as tie
 

@@ -9,8 +9,8 @@ use borrow.Author.Tests.{eq-eqb, ne-eqb}
 use Rattle.text.specs.Line.{blank, adds}
 use Rattle.text.specs.Quoted.{text}
 use Rattle.text.specs.declared.Line.{Line}
-use Rattle.runner.specs.Session.{runOn, sessionOf}
-use Rattle.runner.specs.Told.{Tells, reported}
+use Rattle.runner.specs.Session.{runOn, sessionOf, reported}
+use Rattle.runner.specs.Told.{Tells}
 use Rattle.runner.specs.declared.Report.{Report}
 use Rattle.runner.proofs.session.Statement.{statement}
 use Rattle.runner.proofs.session.Tie as tie

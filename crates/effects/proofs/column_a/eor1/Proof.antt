@@ -5,8 +5,8 @@ use Rattle.instructions.specs.Effects.{effectOf}
 use Rattle.effects.proofs.column_a.eor1.Statement.{statement}
 use Rattle.effects.proofs.column_a.eor1.Tie as tie
 
-bit-read-requires : tie.Need-bit-read-requires
-bit-read-requires c κs = search needs
+named-bit-requires : tie.Need-named-bit-requires
+named-bit-requires c κs = search needs
 
 set-c-requires : tie.Need-set-c-requires
 set-c-requires c κs = search needs
@@ -16,12 +16,12 @@ set-c-requires-2 c κs = search needs
 
 returns : tie.Need-returns
 unfolding effectOf
-returns c = rw (c .before .if1 .taken, c .set-c .ensures, c .before .before .bit-read .ensures)
+returns c = rw (c .before .if1 .taken, c .set-c .ensures, c .before .before .named-bit .ensures)
 
 returns-2 : tie.Need-returns-2
 unfolding effectOf
-returns-2 c = rw (c .before .if1 .left, c .set-c2 .ensures, c .before .before .bit-read .ensures)
+returns-2 c = rw (c .before .if1 .left, c .set-c2 .ensures, c .before .before .named-bit .ensures)
 
 pub eor1-spec : {M : Type 1} → statement M
 eor1-spec =
-    tie.close (tie.spec bit-read-requires set-c-requires set-c-requires-2 returns returns-2)
+    tie.close (tie.spec named-bit-requires set-c-requires set-c-requires-2 returns returns-2)
