@@ -1,14 +1,56 @@
-// Modes that read more than one thing.
+// Modes that read the same in every row: nothing, a byte, several bytes, or where to go.
 ghost use Rattle.memory.specs.World.{Sized, world};
 ghost use Rattle.memory.specs.Access.{Does, outcome};
 ghost use Prim.Native.Nat.{_+_, _-_, _*_, _/_, _^_, _≤_};
 ghost use mathlib.Core.Path.{_≡_};
-ghost use Rattle.instructions.specs.Rows.Mode.{immediate, directDirect, directToDirect, directImmediate, immediateToDirect, atXatY, directWord, toDirectWord, memoryBit, upperPage, pulled, pulledThree};
+ghost use Rattle.instructions.specs.Rows.Mode.{immediate, direct, directX, absolute, directDirect, directToDirect, directImmediate, immediateToDirect, atXatY, directWord, toDirectWord, memoryBit, upperPage, word, wordAtX, pulled, pulledWord, pulledThree};
 ghost use Rattle.instructions.specs.Gather.{operands, bothLoaded, sourceLoaded, vector, gatherOf};
+use crate::places::aim;
+use crate::places::load;
 use instructions::Operands;
 use modes::Addressed;
 use processor::Processor;
 use processor::Produced;
+
+// Nothing is read.
+pub fn implied(cpu: Processor) -> Operands
+    ensures { λ r. ⌜ r ≡ operands cpu 0 0 0 0 ⌝ }
+{
+    Operands {
+        cpu,
+        at: 0,
+        next: 0,
+        low: 0,
+        high: 0,
+    }
+}
+
+// d: the byte there.
+pub fn direct(cpu: Processor, memory: &[u8], reads: &mut [u8], writes: &[u8]) -> Operands
+    requires { ⌜ Sized (world (now memory) (now reads) (now writes)) ⌝ }
+    ensures { λ r. ⌜ Does (gatherOf direct 0 cpu) (world (now (memory .entry)) (now (reads .entry)) (now (writes .entry))) (outcome r (now (memory .entry)) (now (reads .exit)) (now (writes .entry))) ⌝ }
+{
+    let found = modes::d(cpu, memory, reads, writes);
+    load(found, memory, reads, writes)
+}
+
+// d+X: the byte there.
+pub fn direct_x(cpu: Processor, memory: &[u8], reads: &mut [u8], writes: &[u8]) -> Operands
+    requires { ⌜ Sized (world (now memory) (now reads) (now writes)) ⌝ }
+    ensures { λ r. ⌜ Does (gatherOf directX 0 cpu) (world (now (memory .entry)) (now (reads .entry)) (now (writes .entry))) (outcome r (now (memory .entry)) (now (reads .exit)) (now (writes .entry))) ⌝ }
+{
+    let found = modes::dx(cpu, memory, reads, writes);
+    load(found, memory, reads, writes)
+}
+
+// !a: the byte there.
+pub fn absolute(cpu: Processor, memory: &[u8], reads: &mut [u8], writes: &[u8]) -> Operands
+    requires { ⌜ Sized (world (now memory) (now reads) (now writes)) ⌝ }
+    ensures { λ r. ⌜ Does (gatherOf absolute 0 cpu) (world (now (memory .entry)) (now (reads .entry)) (now (writes .entry))) (outcome r (now (memory .entry)) (now (reads .exit)) (now (writes .entry))) ⌝ }
+{
+    let found = modes::abs(cpu, memory, reads, writes);
+    load(found, memory, reads, writes)
+}
 
 // A byte alone.
 fn byte_only(read: Produced) -> Operands
@@ -252,6 +294,30 @@ pub fn vector_at(
         low: 0,
         high: 0,
     }
+}
+
+// RET: a word from the stack.
+pub fn pulled_word(cpu: Processor, memory: &[u8], reads: &mut [u8], writes: &[u8]) -> Operands
+    requires { ⌜ Sized (world (now memory) (now reads) (now writes)) ⌝ }
+    ensures { λ r. ⌜ Does (gatherOf pulledWord 0 cpu) (world (now (memory .entry)) (now (reads .entry)) (now (writes .entry))) (outcome r (now (memory .entry)) (now (reads .exit)) (now (writes .entry))) ⌝ }
+{
+    aim(modes::pull_from_stack_u16(cpu, memory, reads, writes))
+}
+
+// CALL and JMP: an operand word.
+pub fn word(cpu: Processor, memory: &[u8], reads: &mut [u8], writes: &[u8]) -> Operands
+    requires { ⌜ Sized (world (now memory) (now reads) (now writes)) ⌝ }
+    ensures { λ r. ⌜ Does (gatherOf word 0 cpu) (world (now (memory .entry)) (now (reads .entry)) (now (writes .entry))) (outcome r (now (memory .entry)) (now (reads .exit)) (now (writes .entry))) ⌝ }
+{
+    aim(modes::abs(cpu, memory, reads, writes))
+}
+
+// JMP [!a+X]: the word there.
+pub fn word_at_x(cpu: Processor, memory: &[u8], reads: &mut [u8], writes: &[u8]) -> Operands
+    requires { ⌜ Sized (world (now memory) (now reads) (now writes)) ⌝ }
+    ensures { λ r. ⌜ Does (gatherOf wordAtX 0 cpu) (world (now (memory .entry)) (now (reads .entry)) (now (writes .entry))) (outcome r (now (memory .entry)) (now (reads .exit)) (now (writes .entry))) ⌝ }
+{
+    aim(modes::iax(cpu, memory, reads, writes))
 }
 
 // TCALL n: the word at 0xFFDE - 2n; n is the opcode's top four bits.

@@ -1,0 +1,23 @@
+-- The mode finds the address, and `load` reads there.
+-- Assumes nothing.
+use Rattle.memory.proofs.Laws.{chain}
+use Rattle.instructions.specs.Gather.{gatherOf}
+use borrow.Author.Needs.{needs}
+use Rattle.gather.proofs.several.absolute.Statement.{statement}
+use Rattle.gather.proofs.several.absolute.Tie as tie
+
+abs-requires : tie.Need-abs-requires
+abs-requires c κs = search needs
+
+load-requires : tie.Need-load-requires
+load-requires c κs = search needs
+
+same-length : tie.Need-same-length
+same-length c = search needs
+
+returns : tie.Need-returns
+unfolding gatherOf
+returns c = chain _ (c .before .before .before .before .before .before .abs .ensures) (c .before .before .load .ensures)
+
+pub absolute-spec : {M : Type 1} → statement M
+absolute-spec = tie.close (tie.spec abs-requires load-requires same-length returns)

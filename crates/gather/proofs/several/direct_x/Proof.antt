@@ -1,0 +1,23 @@
+-- The mode finds the address, and `load` reads there.
+-- Assumes nothing.
+use Rattle.memory.proofs.Laws.{chain}
+use Rattle.instructions.specs.Gather.{gatherOf}
+use borrow.Author.Needs.{needs}
+use Rattle.gather.proofs.several.direct_x.Statement.{statement}
+use Rattle.gather.proofs.several.direct_x.Tie as tie
+
+dx-requires : tie.Need-dx-requires
+dx-requires c κs = search needs
+
+load-requires : tie.Need-load-requires
+load-requires c κs = search needs
+
+same-length : tie.Need-same-length
+same-length c = search needs
+
+returns : tie.Need-returns
+unfolding gatherOf
+returns c = chain _ (c .before .before .before .before .before .before .dx .ensures) (c .before .before .load .ensures)
+
+pub direct-x-spec : {M : Type 1} → statement M
+direct-x-spec = tie.close (tie.spec dx-requires load-requires same-length returns)

@@ -1,0 +1,23 @@
+-- What is found is where to go; nothing is read there.
+-- Assumes nothing.
+use Rattle.memory.proofs.Laws.{chain, ends}
+use Rattle.instructions.specs.Gather.{gatherOf}
+use borrow.Author.Needs.{needs}
+use Rattle.gather.proofs.several.word.Statement.{statement}
+use Rattle.gather.proofs.several.word.Tie as tie
+
+abs-requires : tie.Need-abs-requires
+abs-requires c κs = search needs
+
+aim-requires : tie.Need-aim-requires
+aim-requires c κs = search needs
+
+same-length : tie.Need-same-length
+same-length c = search needs
+
+returns : tie.Need-returns
+unfolding gatherOf
+returns c = chain _ (c .before .before .before .abs .ensures) (rw (c .aim .ensures) ends)
+
+pub word-spec : {M : Type 1} → statement M
+word-spec = tie.close (tie.spec abs-requires aim-requires same-length returns)
