@@ -21,16 +21,20 @@ def opcode(case, answer):
     return None, answer
 
 
+def cmpw_flags(ya, word):
+    """The flags of CMPW, those of the 16-bit difference."""
+    rest = (ya - word) & 0xFFFF
+    return {"n": rest >> 15, "z": int(rest == 0), "c": int(ya >= word)}
+
+
 def compared(case, answer):
     """D5: CMPW in 16 bits; the crate forgets the borrow of the low byte and the low byte's part in Z."""
-    ya, word = case[3] << 8 | case[1], case[9] << 8 | case[8]
-    rest = (ya - word) & 0xFFFF
-    ours = status(answer, rest >> 15, int(rest == 0), int(ya >= word))
+    ours = status(answer, **cmpw_flags(case[3] << 8 | case[1], case[9] << 8 | case[8]))
     return ("D5", ours) if ours != answer else (None, answer)
 
 
 def expected(case, answer):
-    """What the Rust answered to a case gives: (label or None, our answer)."""
+    """The label of a case or None, and our answer, from the crate's answer."""
     if case[0] == 2:
         return opcode(case, answer)
     if case[0] == 40:

@@ -8,6 +8,7 @@ are the crate's own mistake. Parts of a head that a rule does not speak of are t
 import collections
 
 from accesses import C, H, N, P, V, Z, Machine, performed
+from differences import cmpw_flags
 
 Named = collections.namedtuple("Named", "label due crate accesses")
 
@@ -52,9 +53,7 @@ def write_u16(case, head, machine):
 def cmpw(case, head, machine):
     """D5: the crate's flags are those of Y against the high byte alone."""
     high, low = (machine.byte_at(int(read[1:], 16)) for read in (machine.log[3], machine.log[2]))
-    ya, word = case[2] << 8 | case[0], high << 8 | low
-    rest = (ya - word) & 0xFFFF
-    due = flags(case[6], n=rest & 0x8000, z=rest == 0, c=ya >= word)
+    due = flags(case[6], **cmpw_flags(case[2] << 8 | case[0], high << 8 | low))
     crate = flags(case[6], n=(case[2] - high) & 0x80, z=case[2] == high, c=case[2] >= high)
     return Named("D5", replaced(head, PSW, due), replaced(head, PSW, crate), machine.log) if due != crate else None
 

@@ -3,7 +3,7 @@
 A run through bytes at random soon meets SLEEP or STOP, or hangs in a branch to itself. So there are four kinds of memory, by turns:
 
   noise    bytes at random
-  lively   the same, with few of the bytes that are SLEEP, STOP, BRK, a plain jump or a return
+  lively   the same, with few of the bytes that are SLEEP, STOP, BRK, PCALL, TCALL, a plain jump or a return
   pieces   pieces of such code, each a loop that is gone through some times and then a jump or a call to another piece
   own      pieces in pages 0 and 1, with stack and direct page among them, so that code is stored over; jumps to there elsewhere
 """

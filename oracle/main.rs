@@ -7,7 +7,6 @@
 //
 // The crate's files are compiled as they stand, from the folder that SPC700_SRC names. Its private methods are reached from a
 // module below theirs, so that no function is edited. oracle/README.md says what the bytes of a case mean.
-#![allow(dead_code, unused_variables)]
 
 mod opcode_data {
     include!(concat!(env!("SPC700_SRC"), "/opcode_data.rs"));

@@ -8,12 +8,12 @@ import subprocess
 
 import accesses
 import images
+import records
 
 # so many runs go on side by side: their cases and answers fit into the pipes
 TOGETHER = 500
 # a restless run that has come to no new place for so many steps is called anew elsewhere
 PATIENCE = 50
-FLAGS = "NVPBHIZC"
 
 
 class Run:
@@ -77,43 +77,9 @@ class Run:
         """Keeps of the first call the budget that `run` is to have, and what it has to report."""
         if self.report is None:
             self.budget = budget
-            self.report = report(stop, self.steps, self.registers, len(self.reads), len(self.written))
-
-
-def report(stop, steps, registers, reads, written):
-    """What `run` prints, by docs/SCOPE.md."""
-    a, x, y, sp, low, high, psw = registers
-    flags = " ".join(f"{name}={psw >> 7 - i & 1}" for i, name in enumerate(FLAGS))
-    return (
-        f"stop {stop}\nsteps {steps}\nA={a:02X} X={x:02X} Y={y:02X} SP={sp:02X} PC={high:02X}{low:02X}\n"
-        f"{flags} ({psw:02X})\nread {reads} written {written}\n"
-    )
-
-
-class Program:
-    """A program that answers cases as they come."""
-
-    def __init__(self, command):
-        self.process = subprocess.Popen(command, stdin=subprocess.PIPE, stdout=subprocess.PIPE)
-
-    def ask(self, cases):
-        self.process.stdin.write(cases)
-        self.process.stdin.flush()
-
-    def answer(self):
-        line = self.process.stdout.readline().decode()
-        if not line.endswith("\n"):
-            raise SystemExit("unexplained: a program ended before its last answer")
-        return line.rstrip("\n")
-
-    def more(self):
-        """Ends the program. Gives whether there were more answers than cases."""
-        self.process.stdin.close()
-        rest = self.process.stdout.read()
-        self.process.wait()
-        if rest:
-            print(f"unexplained: more answers than cases: {rest[:80]!r}")
-        return bool(rest)
+            a, x, y, sp, low, high, psw = self.registers
+            marks = len(self.reads), len(self.written)
+            self.report = records.report(stop, self.steps, marks, a, x, y, sp, high << 8 | low, psw)
 
 
 def together(first, count, steps, ours, rust, judge):
@@ -136,8 +102,8 @@ def reported(runs, command):
     """Has the program `run` make the first call of each run. Gives the number of wrong reports."""
     wrong = 0
     for run in runs:
-        given = run.budget.to_bytes(4, "little") + run.start
-        got = subprocess.run(command, input=given, stdout=subprocess.PIPE).stdout.decode("latin-1")
+        done = subprocess.run(command, input=records.budgeted(run.budget, run.start), stdout=subprocess.PIPE)
+        got = done.stdout.decode("latin-1") if done.returncode == 0 else f"status {done.returncode}"
         if got != run.report:
             wrong += 1
             if wrong <= 20:
