@@ -15,7 +15,7 @@ BACKGROUND = [(address % 256 * 7 + address // 256 * 13 + 5) % 256 for address in
 
 def parsed_rows():
     """The operation and the mode of each of the 256 opcodes."""
-    rows = re.findall(r"^ +row (\w+) (\w+) ∷$", ROWS.read_text(encoding="utf-8"), re.MULTILINE)
+    rows = re.findall(r"^ +row (\w+) (\w+) ∷", ROWS.read_text(encoding="utf-8"), re.MULTILINE)
     if len(rows) != 256:
         raise SystemExit(f"{ROWS} has {len(rows)} rows")
     return rows
