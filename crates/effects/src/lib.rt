@@ -31,7 +31,7 @@ pub fn effect_of(opcode: u8, o: Operands) -> Effect
         0x09 | 0x18..=0x19 => families::pairs(opcode / 32, o),
         0x0B | 0x1B => families::shifts(opcode / 32, o),
         0x0C => families::shifts(opcode / 32, o),
-        // the other columns, by the opcode's low digit, have an instruction of its own in each place
+        // in the other columns, by the opcode's low digit, each opcode has an instruction of its own
         0x00 | 0x10 => column_0::column_0(opcode, o),
         0x08 | 0x1C => column_8::column_8(opcode, o),
         0x0A | 0x1A => column_a::column_a(opcode, o),

@@ -11,8 +11,7 @@ use instructions::Operands;
 use processor::Processor;
 
 // What the opcode's row reads, with PC behind the opcode. The low five bits pick a column of the table; first come the columns whose rows
-// do not all read alike. Each column has an arm of its own, also where two do the same, so that the compiler can lead each one straight on
-// to its arm of `effect_of` (docs/SPEED.md).
+// do not all read alike. Each column has an arm of its own, also where two do the same: a step is then cheaper (docs/SPEED.md).
 pub fn gather(cpu: Processor, memory: &[u8], reads: &mut [u8], writes: &[u8], op: u8) -> Operands
     requires { ⌜ Sized (world (now memory) (now reads) (now writes)) ⌝ }
     ensures { λ r. ⌜ Does (gatherOf (rowOf op .mode) op cpu) (world (now (memory .entry)) (now (reads .entry)) (now (writes .entry))) (outcome r (now (memory .entry)) (now (reads .exit)) (now (writes .entry))) ⌝ }
