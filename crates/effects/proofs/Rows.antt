@@ -9,6 +9,7 @@ use native.Mathlib.Omega.{arith}
 use lib.Bits.{bitAnd}
 use lib.Dec.{T, eqb, leb, ltb, le→leb, lt→ltb}
 use mir.Val.{hasKey}
+use mir.Facts.{yes-and}
 use types.Run.{OneOf}
 use borrow.Author.Tests.{eqb-true}
 use Rattle.laws.specs.Below.{below, below-at}
@@ -19,10 +20,6 @@ use Rattle.instructions.specs.Rows.Operation.{nop}
 use Rattle.instructions.specs.Effects.{effectOf}
 use Rattle.instructions.specs.declared.Operands.{Operands}
 use Rattle.instructions.specs.declared.Effect.{Effect}
-
-pub both : (a b : Bool) → T a → T b → T (a && b)
-both true b s t = t
-both false b s t = absurd s
 
 met : (a b : Bool) → T a → T (when a b) → T b
 met true b s t = t
@@ -35,7 +32,7 @@ put true k kss = (k ∷ []) ∷ kss
 put false k kss = kss
 
 -- the numbers below n that pass p, the highest first
-abbrev pub numbers : (ℕ → Bool) → ℕ → List (List ℕ)
+abbrev numbers : (ℕ → Bool) → ℕ → List (List ℕ)
 numbers p zero = []
 numbers p (suc n) = put (p n) n (numbers p n)
 
@@ -57,7 +54,7 @@ the-last last p n x h t none = go (eqb x last) refl
     go : (b : Bool) → eqb x last ≡ b → x ≡ last
     go true e = eqb-true x last e
     go false e =
-        absurd (none-left (λ k. p k && not (eqb k last)) n x h (both (p x) (not (eqb x last)) t (rw e tt)) none)
+        absurd (none-left (λ k. p k && not (eqb k last)) n x h (yes-and (p x) (not (eqb x last)) t (rw e tt)) none)
 
 -- ---- an arm of a `match` on an opcode's low five bits
 
@@ -87,5 +84,5 @@ pub between : (kss : List (List ℕ)) (least most : ℕ) (p : ℕ → Bool) → 
     (k : ℕ) → k < 256 → NoneIn kss (bitAnd k 31) → least ≤ bitAnd k 31 → bitAnd k 31 < most → T (p k)
 between kss least most p t k h none l m =
     met (leb least (bitAnd k 31) && ltb (bitAnd k 31) most) (p k)
-    (both (leb least (bitAnd k 31)) (ltb (bitAnd k 31) most) (le→leb _ _ l) (lt→ltb _ _ m))
+    (yes-and (leb least (bitAnd k 31)) (ltb (bitAnd k 31) most) (le→leb _ _ l) (lt→ltb _ _ m))
     (none-then 256 (λ k. when (leb least (bitAnd k 31) && ltb (bitAnd k 31) most) (p k)) (λ k. bitAnd k 31) kss k h none t)

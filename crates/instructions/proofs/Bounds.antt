@@ -1,20 +1,21 @@
 -- Results of operations are bytes: they wrap, are made of the bits of bytes, or are parts of a quotient.
 -- Assumes nothing.
-use Prim.Native.Nat.{ℕ, _+_, _-_, _*_, _/_, _%_, _<_, _≤_}
+use Prim.Native.Nat.{ℕ, _+_, _-_, _*_, _/_, _%_, _<_}
 use mathlib.Core.Path.{_≡_, refl}
 use mathlib.Core.Bool.{Bool, true, false, cond, not, _||_}
-use native.Mathlib.Nat.{mul-le-mul, mod-lt}
+use native.Mathlib.Nat.{mod-lt}
 use native.Mathlib.Omega.{arith}
 use lib.Bits.{bitAnd, bitOr, bitXor, or-lt, xor-lt, and-le-l}
 use lib.Dec.{ltb}
 use lib.Pow.{pow-lt}
 use borrow.Author.Tests.{ltb-true}
-use Rattle.psw.specs.Status.{oneIf, byteOf}
-use Rattle.psw.specs.declared.ProgramStatusWord.{ProgramStatusWord}
-use Rattle.processor.specs.Record.{withFlags, withA, wordOf, loadedA}
+use Rattle.psw.specs.Status.{oneIf}
+use Rattle.psw.specs.Theorems.{most-one}
+use Rattle.processor.specs.Record.{wordOf, loadedA}
 use Rattle.processor.specs.Products.{divided, divOf}
 use Rattle.processor.specs.Decimal.{highAdjusted, daaOf, highReduced, dasOf}
 use Rattle.processor.specs.declared.Processor.{Processor}
+use Rattle.processor.proofs.Bounds.{product-most, odd-rest}
 use Rattle.instructions.specs.Effects.{withBit, bitIn}
 use Rattle.instructions.proofs.Parts.{below-256}
 
@@ -44,28 +45,16 @@ with-bit false h k = and-byte _ k
 pub bit-in : (k : ℕ) → k < 256 → bitIn k < 256
 bit-in k h = pow-lt {j = 8} (omega arith)
 
-flag : (f : Bool) → oneIf f < 2
-flag true = omega arith
-flag false = omega arith
-
 pub right-byte : (byte : ℕ) (f : Bool) → byte < 256 → byte / 2 + oneIf f * 128 < 256
-right-byte byte f h = omega (arith, flag f)
-
-pub status-byte : (psw : ProgramStatusWord) → byteOf psw < 256
-unfolding byteOf
-status-byte psw =
-    omega (arith, flag (psw .n), flag (psw .v), flag (psw .p), flag (psw .b), flag (psw .h), flag (psw .i), flag (psw .z), flag (psw .c))
+right-byte byte f h = omega (arith, most-one f)
 
 -- ---- MUL and DIV
 
 pub mul-high : (y a : ℕ) → y < 256 → a < 256 → y * a / 256 < 256
-mul-high y a h k = let small : y * a ≤ 255 * 255 = mul-le-mul {n₂ = 255} {m₂ = 255} (omega arith) (omega arith) in omega arith
+mul-high y a h k = omega (arith, product-most y a h k)
 
 rest-byte : (w x y : ℕ) → x < 256 → ltb y (x * 2) ≡ true → w % x < 256
 rest-byte w x y h t = omega (arith, ltb-true y (x * 2) t, mod-lt w {m = x} (omega (arith, ltb-true y (x * 2) t)))
-
-odd-rest : (n x : ℕ) → x < 256 → x + n % (256 - x) < 256
-odd-rest n x h = omega (arith, mod-lt n {m = 256 - x} (omega arith))
 
 odd-quotient : (n : ℕ) → 255 - n < 256
 odd-quotient n = omega arith
@@ -85,11 +74,7 @@ div-widths cpu p = go (ltb (cpu .y) (cpu .x * 2)) refl
 
 -- ---- digits
 
--- A adjusted or not, and then once more
-first : (t : Bool) (cpu : Processor) (psw : ProgramStatusWord) {n : ℕ} → n < 256 → Widths cpu → Widths (cond t (withA n (withFlags psw cpu)) cpu)
-first true cpu psw h p = (h, p .1, p .2, p .3, p .4)
-first false cpu psw h p = p
-
+-- A adjusted or not, where it may have been adjusted once before
 second : (t : Bool) (cpu : Processor) {n : ℕ} → n < 256 → Widths cpu → Widths (loadedA cpu (cond t n (cpu .a)))
 second true cpu h p = (h, p .1, p .2, p .3, p .4)
 second false cpu h p = p
@@ -97,12 +82,12 @@ second false cpu h p = p
 pub daa-widths : (cpu : Processor) → Widths cpu → Widths (daaOf cpu)
 daa-widths cpu p =
     let h = highAdjusted cpu in
-    second (h .psw .h || ltb 9 (h .a % 16)) h (below-256 _) (first (cpu .psw .c || ltb 0x99 (cpu .a)) cpu _ (below-256 _) p)
+    second (h .psw .h || ltb 9 (h .a % 16)) h (below-256 _) (either (cpu .psw .c || ltb 0x99 (cpu .a)) _ cpu (below-256 _, p .1, p .2, p .3, p .4) p)
 
 pub das-widths : (cpu : Processor) → Widths cpu → Widths (dasOf cpu)
 das-widths cpu p =
     let h = highReduced cpu in
-    second (not (h .psw .h) || ltb 9 (h .a % 16)) h (below-256 _) (first (not (cpu .psw .c) || ltb 0x99 (cpu .a)) cpu _ (below-256 _) p)
+    second (not (h .psw .h) || ltb 9 (h .a % 16)) h (below-256 _) (either (not (cpu .psw .c) || ltb 0x99 (cpu .a)) _ cpu (below-256 _, p .1, p .2, p .3, p .4) p)
 
 pub exchanged : (a : ℕ) → a < 256 → a % 16 * 16 + a / 16 < 256
 exchanged a h = omega arith

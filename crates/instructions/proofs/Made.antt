@@ -3,6 +3,7 @@
 use Prim.Native.Nat.{ℕ, _/_, _%_, _<_}
 use mathlib.Core.Bool.{true, false, cond}
 use native.Mathlib.Omega.{arith}
+use Rattle.psw.specs.Theorems.{status-byte}
 use Rattle.processor.specs.Record.{withA, withX, withY, withPc, withYA}
 use Rattle.modes.specs.Addresses.{onward}
 use Rattle.instructions.specs.Rows.{Operation}
@@ -14,7 +15,7 @@ use Rattle.instructions.specs.declared.Stores.{Stores}
 use Rattle.instructions.specs.declared.Stores.the-variants.{Nothing, Byte, Word, Push, Call, Break}
 use Rattle.instructions.proofs.Parts.{below-65536, below-256}
 use Rattle.instructions.proofs.Gathered.{Gathered}
-use Rattle.instructions.proofs.Bounds.{Widths, either, or-byte, xor-byte, and-byte, with-bit, bit-in, right-byte, status-byte, mul-high, div-widths, daa-widths, das-widths, exchanged}
+use Rattle.instructions.proofs.Bounds.{Widths, either, or-byte, xor-byte, and-byte, with-bit, bit-in, right-byte, mul-high, div-widths, daa-widths, das-widths, exchanged}
 
 -- what is stored, and where; where a call goes
 abbrev pub Kept : Stores → Type 0

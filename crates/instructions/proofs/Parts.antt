@@ -56,7 +56,7 @@ pub record HasBit (d : BitAddressed) : Type 0 where
   pub bit : d .bit < 8
 
 -- PC goes on, SP rises
-pub moves-on : {cpu : Processor} → Fits cpu → Fits (onward cpu)
+moves-on : {cpu : Processor} → Fits cpu → Fits (onward cpu)
 moves-on c = record { a = c .a; x = c .x; y = c .y; sp = c .sp; pc = below-65536 _ }
 
 rises : {cpu : Processor} → Fits cpu → Fits (raised cpu)

@@ -1,6 +1,6 @@
 -- The sixteen worked cases of document 01, and one statement that proves them all by computing.
 -- Assumes nothing.
-use Prim.Native.Nat.{ℕ, _+_, _*_}
+use Prim.Native.Nat.{ℕ}
 use mathlib.Core.Path.{_≡_, refl}
 use mathlib.Core.List.{List, [], _∷_}
 use Rattle.signed.specs.Displacement.{targetOf}

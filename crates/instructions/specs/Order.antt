@@ -1,7 +1,7 @@
 -- DBNZ on memory stores before it reads its displacement.
 -- Assumes nothing.
-use mathlib.Core.Path.{_≡_, refl}
-use mathlib.Core.Bool.{Bool, true, false, cond, not}
+use mathlib.Core.Path.{_≡_}
+use mathlib.Core.Bool.{false}
 use lib.Dec.{eqb}
 use Rattle.memory.specs.Access.Access.{done, readAt, storeAt}
 use Rattle.memory.specs.Access.{then}

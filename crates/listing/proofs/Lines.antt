@@ -7,10 +7,11 @@ use native.Mathlib.Nat.{mod-lt}
 use native.Mathlib.Omega.{arith}
 use lib.ListN.{length, take, drop, length-append, length-drop, drop-of-length-le}
 use lib.Seq.{take-add, drop-drop, take-append-seam, drop-append-seam}
+use Rattle.laws.specs.Bytes.{Bytes, bytes-drop}
 use Rattle.text.specs.Line.{blank, adds}
 use Rattle.text.specs.declared.Line.{Line}
 use Rattle.text.proofs.Laws.{length-adds}
-use Rattle.listing.specs.Lengths.{Bytes, bytes-drop, turn-within, turn-fits, length-lines}
+use Rattle.listing.specs.Lengths.{turn-within, turn-fits, length-lines}
 use Rattle.listing.specs.Session.{turnText, turnBytes, linesOf}
 
 -- Bytes that belong to the instruction before are passed over.
@@ -26,7 +27,7 @@ lines-behind (suc before) address (byte ∷ code) h =
     rw (← same) (lines-behind before ((address + 1) % 65536) code (omega arith))
 
 -- The first line, and the lines of the bytes behind those that it stands for.
-pub lines-first : (address : ℕ) (code : List ℕ) → 0 < length code
+lines-first : (address : ℕ) (code : List ℕ) → 0 < length code
     → linesOf 0 address code
     ≡ turnText address code ++ linesOf 0 ((address + turnBytes code) % 65536) (drop (turnBytes code) code)
 unfolding linesOf

@@ -5,11 +5,10 @@ use mathlib.Core.Path.{_≡_, refl}
 use mathlib.Core.Bool.{Bool, true, false, cond}
 use mathlib.Core.List.{List, [], _∷_}
 use native.Mathlib.Omega.{arith}
-use lib.Dec.{T, leb, leb→le}
-use lib.ListN.{length, getD, drop, length-append}
-use lib.Seq.{getD-drop}
+use lib.ListN.{length, getD, length-append}
 use borrow.Author.Tests.{ltb-false}
-use Rattle.laws.specs.Below.{below, below-at}
+use Rattle.laws.specs.Below.{most-below}
+use Rattle.laws.specs.Bytes.{Bytes}
 use Rattle.opcodes.specs.Opcodes.{constants}
 use Rattle.opcode_data.specs.Data.{dataOf}
 use Rattle.opcode_data.specs.Format.{taken, modesText}
@@ -18,13 +17,6 @@ use Rattle.opcode_data.proofs.Lengths.{room, length-mode}
 use Rattle.text.specs.Quoted.{text}
 use Rattle.listing.specs.Instruction.{modesAt, lengthOf, letters, operandsText, instructionText, isCut}
 use Rattle.listing.specs.Session.{lineText, turnText, turnBytes, linesOf}
-
--- all that a list holds are bytes
-abbrev pub Bytes : List ℕ → Type 0
-Bytes code = (at : ℕ) → getD code at 0 < 256
-
-pub bytes-drop : (n : ℕ) (code : List ℕ) → Bytes code → Bytes (drop n code)
-bytes-drop n code small at = rw getD-drop (small (n + at))
 
 -- ---- one instruction
 
@@ -38,18 +30,14 @@ operandsRoom (m ∷ l ∷ ms) = room m + 2 + operandsRoom (l ∷ ms)
 abbrev roomOf : ℕ → ℕ
 roomOf opcode = length (letters (dataOf opcode .name)) + operandsRoom (modesAt opcode)
 
--- a bound that is computed at each opcode
-at-most : (f g : ℕ → ℕ) → T (below 256 (λ k. leb (f k) (g k))) → (opcode : ℕ) → opcode < 256 → f opcode ≤ g opcode
-at-most f g t opcode h = leb→le _ _ (below-at 256 (λ k. leb (f k) (g k)) t opcode h)
-
 -- with the address and the blank before it and the newline behind it
 short-line : (opcode : ℕ) → opcode < 256 → roomOf opcode + 6 ≤ 18 * lengthOf opcode
 unfolding dataOf constants lengthOf
-short-line = at-most (λ k. roomOf k + 6) (λ k. 18 * lengthOf k) tt
+short-line = most-below 256 (λ k. roomOf k + 6) (λ k. 18 * lengthOf k) tt
 
 few-bytes : (opcode : ℕ) → opcode < 256 → lengthOf opcode ≤ 3
 unfolding dataOf constants lengthOf
-few-bytes = at-most lengthOf (λ k. 3) tt
+few-bytes = most-below 256 lengthOf (λ k. 3) tt
 
 module _ (bytes : List ℕ) (small : Bytes bytes) where
   length-operands : (m : AddressMode) (ms : List AddressMode) → length (modesText (m ∷ ms) bytes) + 1 ≤ operandsRoom (m ∷ ms)

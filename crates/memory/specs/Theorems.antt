@@ -1,8 +1,8 @@
 -- What holds of every sequence of accesses: maps keep their lengths, and no mark is ever cleared.
 -- Assumes nothing.
 use Prim.Native.Nat.{ℕ, _<_}
-use mathlib.Core.Path.{_≡_, refl}
-use mathlib.Core.Bool.{Bool, true, false, cond, _||_}
+use mathlib.Core.Path.{_≡_}
+use mathlib.Core.Bool.{Bool, true, false, cond, or-true}
 use mathlib.Core.List.{List}
 use lib.Dec.{eqb}
 use lib.ListN.{length, length-set}
@@ -28,11 +28,7 @@ itself : (m : List ℕ) → Keeps m m
 itself m = record { marks = λ k h t. t }
 
 one-more : (m : List ℕ) (a : ℕ) → length m ≡ 8192 → Keeps m (marked m a)
-one-more m a l = record { marks = λ k h t. rw (marked-is m a k l h, t) (either (eqb a k)) }
-  where
-    either : (b : Bool) → (b || true) ≡ true
-    either true = refl
-    either false = refl
+one-more m a l = record { marks = λ k h t. rw (marked-is m a k l h, t) (or-true (eqb a k)) }
 
 -- by whether a read marks
 read-keeps : (b : Bool) (m : List ℕ) (a : ℕ) → length m ≡ 8192

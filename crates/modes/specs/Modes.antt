@@ -1,5 +1,5 @@
 -- Address modes: what each reads, in order, and the address it finds. Operand bytes stand at PC.
-use Prim.Native.Nat.{ℕ, _+_, _*_, _/_, _%_, _^_}
+use Prim.Native.Nat.{ℕ, _^_}
 use Rattle.memory.specs.Access.{Access, then}
 use Rattle.memory.specs.Access.Access.{done, readAt}
 use Rattle.memory.specs.Words.{readWord}

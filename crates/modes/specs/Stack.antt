@@ -1,5 +1,5 @@
 -- The stack, at 0x100 + SP: store, then decrease; increase, then read. A word is pushed high byte first.
-use Prim.Native.Nat.{ℕ, _+_, _*_, _/_, _%_}
+use Prim.Native.Nat.{ℕ, _+_, _/_, _%_}
 use Rattle.memory.specs.Access.{Access, then}
 use Rattle.memory.specs.Access.Access.{done, readAt, storeAt}
 use Rattle.processor.specs.Record.{withSp, withPc, wordOf, minus, produced}

@@ -7,6 +7,7 @@ use native.Mathlib.Omega.{arith}
 use lib.Dec.{ltb}
 use lib.IntN.{pos, negsuc, natAbs}
 use lib.ListN.{length, getD, length-append}
+use Rattle.laws.specs.Bytes.{Bytes}
 use Rattle.signed.specs.Displacement.{signedOf}
 use Rattle.signed.proofs.Laws.{by-half}
 use Rattle.text.specs.Digits.{hexShort, hexDigit, hexByte}
@@ -86,17 +87,16 @@ length-mode m low high h = within m low high h .0
 
 -- ---- a list of modes
 
-module _ (bytes : List ℕ) (small : (at : ℕ) → getD bytes at 0 < 256) where
+module _ (bytes : List ℕ) (small : Bytes bytes) where
   length-at : (m : AddressMode) (at : ℕ) → length (textAt m bytes at) ≤ 11
   length-at m at = omega (arith, within m (getD bytes at 0) (getD bytes (at + 1) 0) (small at))
 
   -- 11 bytes for each mode, and 2 between one and the next
-  pub length-list : (ms : List AddressMode) → length (modesText ms bytes) ≤ 13 * length ms - 2
+  length-list : (ms : List AddressMode) → length (modesText ms bytes) ≤ 13 * length ms - 2
   length-list [] = omega arith
   length-list (m ∷ []) = omega (arith, length-at m 0)
   length-list (m ∷ l ∷ ms) =
       simp length-append (omega (arith, length-at m (taken (l ∷ ms)), length-list (l ∷ ms)))
 
-pub length-modes : (ms : List AddressMode) (bytes : List ℕ)
-    → ((at : ℕ) → getD bytes at 0 < 256) → length ms ≤ 3 → length (modesText ms bytes) ≤ 37
+pub length-modes : (ms : List AddressMode) (bytes : List ℕ) → Bytes bytes → length ms ≤ 3 → length (modesText ms bytes) ≤ 37
 length-modes ms bytes small h = omega (arith, length-list bytes small ms)

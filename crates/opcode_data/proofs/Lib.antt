@@ -3,3 +3,4 @@ pub mod Joined
 pub mod Keys
 pub mod Lengths
 pub mod Lists
+pub mod Places

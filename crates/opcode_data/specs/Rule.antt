@@ -1,16 +1,14 @@
--- The rule on the names of the constants loses nothing. Assumes nothing.
+-- The rule on the names of the constants loses nothing: one test, computed over all of them.
+-- Assumes nothing.
 use Prim.Native.Nat.{ℕ}
-use mathlib.Core.Bool.{Bool, true, false, _&&_, _||_}
+use mathlib.Core.Bool.{Bool, false, _&&_, _||_}
 use mathlib.Core.List.{List, [], _∷_}
 use lib.Dec.{T, leb}
 use lib.ListN.{length}
+use Rattle.laws.specs.Every.{every}
 use Rattle.text.specs.Quoted.{text}
-use Rattle.opcodes.specs.Opcodes.{Constant, constants}
+use Rattle.opcodes.specs.Opcodes.{constants}
 use Rattle.opcode_data.specs.Data.{Suffix, suffixes, same, wordsOf}
-
-abbrev pub every : {A : Type 0} → (A → Bool) → List A → Bool
-every f [] = true
-every f (x ∷ xs) = f x && every f xs
 
 -- a word is one of the listed suffixes
 abbrev pub among : List Suffix → List ℕ → Bool

@@ -10,6 +10,7 @@ use native.Mathlib.Omega.{arith}
 use lib.Dec.{eqb}
 use lib.ListN.{length, take, drop, length-append, length-drop}
 use borrow.Author.Tests.{eqb-true}
+use Rattle.laws.specs.Bytes.{Bytes}
 use Rattle.text.specs.Line.{shown}
 use Rattle.text.specs.Quoted.{text}
 use Rattle.text.proofs.Laws.{length-decimal, shown-adds}
@@ -20,7 +21,7 @@ use Rattle.memory.specs.World.{World}
 use Rattle.memory.specs.Access.{Outcome}
 use Rattle.state.specs.Registers.{registersOf}
 use Rattle.engine.specs.declared.Ran.{Ran}
-use Rattle.runner.specs.Bounds.{Bytes, small}
+use Rattle.runner.specs.Bounds.{small}
 use Rattle.runner.specs.Session.{Session, budgetOf, runOn, openingOf, closingOf, sessionOf, reported}
 use Rattle.runner.specs.Told.{Tells}
 use Rattle.runner.specs.declared.Report.{Report}

@@ -4,7 +4,7 @@
 -- Assumes nothing.
 use Prim.Native.Nat.{ℕ, _<_}
 use mathlib.Core.Path.{_≡_, refl, sym, subst, _∙_}
-use mathlib.Core.Bool.{Bool, true, false, _||_, not, cond, or-true, true≢false}
+use mathlib.Core.Bool.{Bool, true, false, _||_, cond, or-true, true≢false}
 use mathlib.Core.List.{List, [], _∷_}
 use native.Mathlib.Omega.{arith}
 use native.Mathlib.Decide.{decLt}
@@ -15,7 +15,7 @@ use borrow.Author.Tests.{eqb-true, eqb-false, eq-eqb}
 use Rattle.marks.specs.Maps.{isMarked}
 use Rattle.marks.proofs.Laws.{marked-is}
 use Rattle.memory.specs.World.{World, Sized, world, byteAt, seen, kept}
-use Rattle.memory.specs.Access.{Access, Outcome, perform}
+use Rattle.memory.specs.Access.{Access, perform}
 use Rattle.memory.specs.Access.Access.{done, readAt, storeAt}
 use Rattle.runs.specs.Run.{Progress, run}
 use Rattle.runs.specs.Trace.{Event, events, taken, trace}

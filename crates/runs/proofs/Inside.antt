@@ -1,6 +1,6 @@
 -- Where every step of a run stays inside the memory and leaves what the next one needs for that, all accesses of the run do.
 -- Assumes nothing.
-use Prim.Native.Nat.{ℕ, zero, suc, _<_}
+use Prim.Native.Nat.{ℕ, zero, suc}
 use mathlib.Core.List.{List, [], _∷_, _++_}
 use Rattle.memory.specs.World.{World, byteAt, seen, kept}
 use Rattle.memory.specs.Access.{Access}

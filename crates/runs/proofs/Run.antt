@@ -70,7 +70,7 @@ module _ {Regs W : Type 0} (attempt : Regs → W → Outcome W (Progress Regs)) 
       let o = attempt r w in
       trans w (o .left) _ (each r w) (joined-keeps (o .result .stop) o _ (run-keeps n (o .result .regs) (o .left)))
 
-  pub resumed-keeps : (n : ℕ) (o : Outcome W (Progress Regs)) → P (o .left) (resumed attempt n o .left)
+  resumed-keeps : (n : ℕ) (o : Outcome W (Progress Regs)) → P (o .left) (resumed attempt n o .left)
   resumed-keeps n o =
       joined-keeps (o .result .stop) o (run attempt n (o .result .regs) (o .left)) (run-keeps n (o .result .regs) (o .left))
 

@@ -1,17 +1,18 @@
 -- What is left is what the accesses leave, one after the other; so the marks of a map are a matter of lists of accesses.
 -- Assumes nothing.
 use Prim.Native.Nat.{ℕ, zero, suc, _<_}
-use mathlib.Core.Path.{_≡_, refl, ap, sym, subst, _∙_}
+use mathlib.Core.Path.{_≡_, refl, ap, subst, _∙_}
 use mathlib.Core.Bool.{Bool, true, false, _||_, _&&_, not, cond, or-false, or-true, or-comm, or-assoc, and-false}
 use mathlib.Core.List.{List, [], _∷_, _++_}
-use lib.ListN.{length, length-set, getD}
+use lib.ListN.{getD}
 use lib.Dec.{eqb}
 use borrow.Author.Tests.{eqb-true}
 use Rattle.marks.specs.Maps.{isMarked, marked}
-use Rattle.marks.proofs.Laws.{marked-is, length-marked}
+use Rattle.marks.proofs.Laws.{marked-is}
 use Rattle.memory.specs.World.{World, Sized, byteAt, seen, kept}
 use Rattle.memory.specs.Access.{Access, Outcome, perform}
 use Rattle.memory.specs.Access.Access.{done, readAt, storeAt}
+use Rattle.memory.specs.Theorems.{marks-stay}
 use Rattle.runs.specs.Run.{Progress, joined, run}
 use Rattle.runs.specs.Trace.{Event, events, unlessStopped, taken, trace}
 use Rattle.runs.specs.Trace.Event.{read, store}
@@ -62,12 +63,9 @@ needed k [] = false
 needed k (e ∷ t) = readsAt k e || not (storesAt k e) && needed k t
 
 pub sized-effect : (e : Event) (w : World) → Sized w → Sized (effect e w)
-sized-effect (read a) w s = record { memory = s .memory; reads = go (isMarked (w .writes) a); writes = s .writes }
-  where
-    go : (b : Bool) → length (cond b (w .reads) (marked (w .reads) a)) ≡ 8192
-    go true = s .reads
-    go false = rw length-marked (s .reads)
-sized-effect (store a byte) w s = record { memory = rw length-set (s .memory); reads = s .reads; writes = rw length-marked (s .writes) }
+unfolding perform
+sized-effect (read a) w s = marks-stay (readAt a done) w s .sized
+sized-effect (store a byte) w s = marks-stay (storeAt a byte (done byte)) w s .sized
 
 pub sized-replay : (t : List Event) (w : World) → Sized w → Sized (replay t w)
 sized-replay [] w s = s

@@ -1,7 +1,7 @@
 -- What the loop has done so far is the run of as many steps; it ends where the budget does, or where a step has stopped it, after which
 -- a larger budget changes nothing.
 -- Assumes nothing.
-use Prim.Native.Nat.{ℕ, _-_, _≤_}
+use Prim.Native.Nat.{_-_, _≤_}
 use mathlib.Core.Path.{_≡_, refl, ap, sym}
 use native.Mathlib.Omega.{arith}
 use borrow.Author.Tests.{eqb-true, eqb-false}

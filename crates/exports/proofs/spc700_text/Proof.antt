@@ -1,17 +1,18 @@
 -- The number is that of the listing's own answer, whose length, at most 80, survives the way to 32 bits.
 -- Assumes nothing.
 use Prim.Native.Nat.{ℕ, suc, _≤_}
-use mathlib.Core.Path.{_≡_, ap, _∙_}
+use mathlib.Core.Path.{ap, _∙_}
 use mathlib.Core.Bool.{Bool, true, false, cond}
 use mathlib.Core.List.{List, [], _∷_}
 use native.Mathlib.Omega.{arith}
 use lib.Dec.{leb}
 use lib.ListN.{length}
 use borrow.Author.Needs.{needs}
+use Rattle.laws.specs.Bytes.{Bytes}
 use Rattle.text.specs.declared.Written.{Written}
 use Rattle.text.specs.Given.{says, refuses, accepted, refused, answerTo}
 use Rattle.listing.specs.Instruction.{instructionText, isCut, listedOf}
-use Rattle.listing.specs.Lengths.{Bytes, instruction-fits}
+use Rattle.listing.specs.Lengths.{instruction-fits}
 use Rattle.exports.specs.Calls.{textNumber}
 use Rattle.exports.proofs.spc700_text.Statement.{statement}
 use Rattle.exports.proofs.spc700_text.Tie as tie

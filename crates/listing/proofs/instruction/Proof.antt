@@ -8,10 +8,11 @@ use native.Mathlib.Omega.{arith}
 use lib.ListN.{length, getD, drop}
 use borrow.Author.Needs.{needs}
 use borrow.Rule.Slice.PartAt.{part-to-end}
+use Rattle.laws.specs.Bytes.{Bytes, bytes-drop}
 use Rattle.text.specs.Given.{says, refuses}
 use Rattle.text.proofs.Laws.{gives-added}
 use Rattle.listing.specs.Instruction.{lengthOf, instructionText, isCut, listedOf}
-use Rattle.listing.specs.Lengths.{Bytes, bytes-drop, instruction-fits}
+use Rattle.listing.specs.Lengths.{instruction-fits}
 use Rattle.listing.proofs.Cut.{is-cut, is-whole}
 use Rattle.listing.proofs.instruction.Statement.{statement}
 use Rattle.listing.proofs.instruction.Tie as tie

@@ -1,6 +1,5 @@
 -- Each branch is a case of the definition, by the test that led there.
 -- Assumes nothing.
-use mathlib.Core.Path.{refl}
 use borrow.Author.Needs.{needs}
 use borrow.Author.Tests.{ne-eqb}
 use Rattle.opcode_data.proofs.one_unless_blank.Statement.{statement}

@@ -4,7 +4,7 @@ use Prim.Native.Nat.{_+_, _-_, _%_}
 use native.Mathlib.Omega.{arith}
 use lib.ListN.{length}
 use borrow.Author.Needs.{needs}
-use Rattle.listing.specs.Lengths.{Bytes}
+use Rattle.laws.specs.Bytes.{Bytes}
 use Rattle.listing.proofs.Lines.{Upto, Next, nothing-yet, next, all-done}
 use Rattle.listing.proofs.program.measure.Statement.{statement}
 use Rattle.listing.proofs.program.measure.Tie as tie

@@ -10,10 +10,11 @@ use borrow.Author.Needs.{needs}
 use borrow.Author.Tests.{le-leb}
 use borrow.Rule.Slice.PartAt.{part-to-end}
 use borrow.Rule.Slice.PartMut.{putMid, post-is}
+use Rattle.laws.specs.Bytes.{Bytes, bytes-drop}
 use Rattle.text.specs.Given.{Gives, says}
 use Rattle.text.specs.declared.Written.{Written}
 use Rattle.text.proofs.Laws.{length-adds, gives-added}
-use Rattle.listing.specs.Lengths.{Bytes, bytes-drop, turn-fits}
+use Rattle.listing.specs.Lengths.{turn-fits}
 use Rattle.listing.specs.Session.{turnText, linesOf}
 use Rattle.listing.proofs.Lines.{Upto, Next, nothing-yet, next, text-so-far, all-done}
 use Rattle.listing.proofs.program.write.Statement.{statement}
