@@ -1,12 +1,14 @@
 -- What holds of every step and of every run.
 -- Assumes nothing.
-use Prim.Native.Nat.{ℕ, _≤_}
+use Prim.Native.Nat.{ℕ, _≤_, _<_}
 use mathlib.Core.Path.{_≡_, ap, sym}
 use Rattle.memory.specs.World.{World, Sized}
 use Rattle.memory.specs.Access.{perform}
 use Rattle.memory.specs.Theorems.{Kept, marks-stay, kept-itself, kept-trans}
 use Rattle.memory.proofs.Laws.{perform-then}
 use Rattle.processor.specs.declared.Processor.{Processor}
+use Rattle.instructions.specs.Order.{ReadsFirst, afterOpcode}
+use Rattle.instructions.proofs.Order as order
 use Rattle.runs.specs.Trace.{taken}
 use Rattle.runs.proofs.Run as runs
 use Rattle.engine.specs.Entry.{answered, countedStep, runOf, stepAnswer, runAnswer}
@@ -34,3 +36,7 @@ step-keeps cpu w s = marks-stay (countedStep cpu) w s
 pub run-keeps : (budget : ℕ) (cpu : Processor) (w : World) → Sized w → Kept w (runOf budget cpu w .left)
 run-keeps =
     runs.run-keeps (taken countedStep) (λ v w. Sized v → Kept v w) kept-itself (λ u v w f g s. kept-trans (f s) (g (f s .sized))) step-keeps
+
+-- Whatever the opcode, but for DBNZ d,rel, what follows its fetch reads all that it reads before it stores anything.
+pub reads-first : (cpu : Processor) (opcode : ℕ) → opcode < 256 → (opcode ≡ 0x6E → ⊥) → ReadsFirst (afterOpcode cpu opcode)
+reads-first = order.reads-first

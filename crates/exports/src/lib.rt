@@ -13,7 +13,7 @@ use engine::Ran;
 fn packed(refusal: u8, stop: u8, number: u32) -> u64
     ensures { λ r. ⌜ r ≡ packed refusal stop number ⌝ }
 {
-    refusal as u64 * 1099511627776 + stop as u64 * 4294967296 + number as u64
+    refusal as u64 * 0x100_0000_0000 + stop as u64 * 0x1_0000_0000 + number as u64
 }
 
 // Hands back what the engine answered: the number, and, unless the engine refused, the record in its seven bytes. Memory and maps are not

@@ -4,3 +4,4 @@ pub mod Gathered
 pub mod Bounds
 pub mod Made
 pub mod Inside
+pub mod Order

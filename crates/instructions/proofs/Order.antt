@@ -1,0 +1,130 @@
+-- A step reads first: its mode only reads, and its effect stores nothing or takes no branch, which one computed test over the table shows
+-- of every opcode but DBNZ d,rel.
+-- Assumes nothing.
+use Prim.Native.Nat.{ℕ, _<_}
+use mathlib.Core.Path.{_≡_}
+use mathlib.Core.Bool.{Bool, true, false, not, _||_}
+use mathlib.Core.List.{[], _∷_}
+use lib.Dec.{T}
+use Rattle.laws.specs.Dispatch.{none-then}
+use Rattle.memory.specs.Access.{Access, then}
+use Rattle.memory.specs.Access.Access.{done, readAt, storeAt}
+use Rattle.memory.specs.Words.{readWord}
+use Rattle.processor.specs.declared.Processor.{Processor}
+use Rattle.modes.specs.Addresses.{onward}
+use Rattle.modes.specs.Branches.{branched}
+use Rattle.modes.specs.Modes as mode
+use Rattle.modes.specs.Stack.{push, pushWord, pull, pullWord, called}
+use Rattle.instructions.specs.Rows.{Mode, rows, rowOf}
+use Rattle.instructions.specs.Rows.Mode.{implied, immediate, direct, directX, directY, absolute, absoluteX, absoluteY, atX, pointerX, pointerY, toDirect, toDirectX, toDirectY, toAbsolute, toAbsoluteX, toAbsoluteY, toX, toPointerX, toPointerY, directDirect, directImmediate, atXatY, directToDirect, immediateToDirect, directWord, toDirectWord, memoryBit, word, wordAtX, upperPage, tableVector, breakVector, pulled, pulledWord, pulledThree}
+use Rattle.instructions.specs.Gather.{loaded, bothLoaded, sourceLoaded, vector, gatherOf}
+use Rattle.instructions.specs.Effects.{effect, effectOf}
+use Rattle.instructions.specs.Step.{commitOf, branchOf, readFor, madeOf, finishOf}
+use Rattle.instructions.specs.Order.{ReadsFirst, afterOpcode}
+use Rattle.instructions.specs.declared.Effect.{Effect}
+use Rattle.instructions.specs.declared.Operands.{Operands}
+use Rattle.instructions.specs.declared.Stores.{Stores}
+use Rattle.instructions.specs.declared.Stores.the-variants.{Nothing, Byte, Word, Push, Call, Break}
+
+-- ---- what a mode reads
+
+-- nothing is stored
+abbrev OnlyReads : {R : Type 0} → Access R → Type 0
+OnlyReads (done x) = Unit
+OnlyReads (readAt a p) = (byte : ℕ) → OnlyReads (p byte)
+OnlyReads (storeAt a byte p) = ⊥
+
+-- Reads alone, and then what reads first by what they gave, read first.
+reads-then : {Q R S : Type 0} (p : Access Q) (g : Q → S) (k : S → Access R) → OnlyReads p → ((x : Q) → ReadsFirst (k (g x)))
+    → ReadsFirst (then (then p (λ x. done (g x))) k)
+unfolding then
+reads-then (done x) g k h f = f x
+reads-then (readAt a p) g k h f = λ byte. reads-then (p byte) g k (h byte) f
+reads-then (storeAt a byte p) g k h f = absurd h
+
+-- Every mode only reads: a λ for each byte that it reads.
+mode-reads : (m : Mode) (opcode : ℕ) (cpu : Processor) → OnlyReads (gatherOf m opcode cpu)
+unfolding gatherOf loaded bothLoaded sourceLoaded vector readWord pull pullWord mode.fetch mode.fetchWord mode.direct mode.directWord mode.pointed mode.pointerX mode.pointerY mode.absolute mode.absolutePointer mode.bitOperand then
+mode-reads implied opcode cpu = tt
+mode-reads immediate opcode cpu = λ _. tt
+mode-reads direct opcode cpu = λ _ _. tt
+mode-reads directX opcode cpu = λ _ _. tt
+mode-reads directY opcode cpu = λ _ _. tt
+mode-reads absolute opcode cpu = λ _ _ _. tt
+mode-reads absoluteX opcode cpu = λ _ _ _. tt
+mode-reads absoluteY opcode cpu = λ _ _ _. tt
+mode-reads atX opcode cpu = λ _. tt
+mode-reads pointerX opcode cpu = λ _ _ _ _. tt
+mode-reads pointerY opcode cpu = λ _ _ _ _. tt
+mode-reads toDirect opcode cpu = λ _. tt
+mode-reads toDirectX opcode cpu = λ _. tt
+mode-reads toDirectY opcode cpu = λ _. tt
+mode-reads toAbsolute opcode cpu = λ _ _. tt
+mode-reads toAbsoluteX opcode cpu = λ _ _. tt
+mode-reads toAbsoluteY opcode cpu = λ _ _. tt
+mode-reads toX opcode cpu = tt
+mode-reads toPointerX opcode cpu = λ _ _ _. tt
+mode-reads toPointerY opcode cpu = λ _ _ _. tt
+mode-reads directDirect opcode cpu = λ _ _ _ _. tt
+mode-reads directToDirect opcode cpu = λ _ _ _. tt
+mode-reads directImmediate opcode cpu = λ _ _ _. tt
+mode-reads immediateToDirect opcode cpu = λ _ _. tt
+mode-reads atXatY opcode cpu = λ _ _. tt
+mode-reads directWord opcode cpu = λ _ _ _. tt
+mode-reads toDirectWord opcode cpu = λ _. tt
+mode-reads memoryBit opcode cpu = λ _ _ _. tt
+mode-reads word opcode cpu = λ _ _. tt
+mode-reads wordAtX opcode cpu = λ _ _ _ _. tt
+mode-reads upperPage opcode cpu = λ _. tt
+mode-reads tableVector opcode cpu = λ _ _. tt
+mode-reads breakVector opcode cpu = λ _ _. tt
+mode-reads pulled opcode cpu = λ _. tt
+mode-reads pulledWord opcode cpu = λ _ _. tt
+mode-reads pulledThree opcode cpu = λ _ _ _. tt
+
+-- ---- the stores, and then the displacement
+
+storesNothing : Stores → Bool
+storesNothing Nothing = true
+storesNothing (Byte at byte) = false
+storesNothing (Word at low next high) = false
+storesNothing (Push byte) = false
+storesNothing (Call target) = false
+storesNothing (Break byte target) = false
+
+-- an effect that stores nothing or takes no branch
+abbrev notBoth : Effect → Bool
+notBoth e = storesNothing (e .stores) || not (e .taken)
+
+-- Such an effect reads its displacement, or stores, or neither.
+finish-reads-first : (cpu : Processor) (s : Stores) (taken : Bool) (why : ℕ) → T (notBoth (effect cpu s taken why))
+    → ReadsFirst (finishOf (effect cpu s taken why))
+unfolding finishOf commitOf branchOf branched mode.fetch push pushWord called storesNothing then
+finish-reads-first cpu Nothing true why t = λ _. tt
+finish-reads-first cpu Nothing false why t = tt
+finish-reads-first cpu (Byte at byte) false why t = tt
+finish-reads-first cpu (Word at low next high) false why t = tt
+finish-reads-first cpu (Push byte) false why t = tt
+finish-reads-first cpu (Call target) false why t = tt
+finish-reads-first cpu (Break byte target) false why t = tt
+finish-reads-first cpu (Byte at byte) true why t = absurd t
+finish-reads-first cpu (Word at low next high) true why t = absurd t
+finish-reads-first cpu (Push byte) true why t = absurd t
+finish-reads-first cpu (Call target) true why t = absurd t
+finish-reads-first cpu (Break byte target) true why t = absurd t
+
+-- ---- the table
+
+-- Every row but DBNZ d,rel has such an effect.
+row-not-both : (opcode : ℕ) → opcode < 256 → (opcode ≡ 0x6E → ⊥) → (o : Operands) → T (notBoth (effectOf (rowOf opcode .operation) opcode o))
+unfolding rows effectOf storesNothing
+row-not-both opcode h other o =
+    none-then 256 (λ k. notBoth (effectOf (rowOf k .operation) k o)) (λ k. k) ((0x6E ∷ []) ∷ []) opcode h (tt, other) tt
+
+-- What follows an opcode in a step reads first, but for DBNZ d,rel.
+pub reads-first : (cpu : Processor) (opcode : ℕ) → opcode < 256 → (opcode ≡ 0x6E → ⊥) → ReadsFirst (afterOpcode cpu opcode)
+unfolding readFor
+reads-first cpu opcode h other =
+    reads-then (gatherOf (rowOf opcode .mode) opcode (onward cpu)) (λ o. record { opcode = opcode; operands = o }) (λ b. finishOf (madeOf b))
+    (mode-reads (rowOf opcode .mode) opcode (onward cpu))
+    (λ o. let e = effectOf (rowOf opcode .operation) opcode o in finish-reads-first (e .cpu) (e .stores) (e .taken) (e .stop) (row-not-both opcode h other o))
