@@ -39,3 +39,9 @@ fourth e = now (e .1 .1 .1 .0)
 
 abbrev pub fifth : {A B C D E : Type 0} → A × (B × (C × (D × (Lent × E)))) → List ℕ
 fifth e = now (e .1 .1 .1 .1 .0)
+
+-- ---- a function that answers a part of a slice
+
+-- Two outcomes that meet the contract for the same arguments show the same bytes.
+pub record Shows {K : Type 0} {A E : K → Type 0} (post : (κ : K) → A κ → Lent → E κ → Type 0) : Type 0 where
+  pub same : {κ : K} {a : A κ} {x y : Lent} {e f : E κ} → post κ a x e → post κ a y f → now x ≡ now y

@@ -6,6 +6,7 @@ pub mod Psw
 pub mod Opcodes
 pub mod Processor
 pub mod Marks
+pub mod Output
 pub mod State
 pub mod Memory
 pub mod Modes

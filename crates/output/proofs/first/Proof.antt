@@ -1,8 +1,10 @@
--- A part that ends within the slice has as many bytes as it was asked for.
+-- A part that ends within the slice is its first bytes, as many as it was asked for; a slice with fewer is all of them.
 -- Assumes nothing.
+use mathlib.Core.Path.{sym}
 use borrow.Author.Needs.{needs}
 use native.Mathlib.Omega.{arith}
 use lib.ListN.{length-take}
+use lib.Seq.{take-all}
 use Rattle.output.proofs.first.Statement.{statement}
 use Rattle.output.proofs.first.Tie as tie
 
@@ -13,7 +15,7 @@ returns : tie.Need-returns
 returns c = search needs
 
 returns-2 : tie.Need-returns-2
-returns-2 c = search needs
+returns-2 c = sym (take-all (c .before .args .n) (c .before .args .bytes .now) (omega arith))
 
 pub first-spec : {M : Type 1} → statement M
 first-spec = tie.close (tie.spec slice-aggregate-result returns returns-2)
