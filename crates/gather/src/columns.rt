@@ -10,7 +10,7 @@ use crate::several;
 use instructions::Operands;
 use processor::Processor;
 
-// d,d; X and !a.
+// d,d; in the last two rows MOV !a,X and MOV X,!a.
 pub fn column_09(cpu: Processor, memory: &[u8], reads: &mut [u8], writes: &[u8], op: u8) -> Operands
     requires { ⌜ Sized (world (now memory) (now reads) (now writes)) ⌝ }
     requires { ⌜ bitAnd op 0x1F ≡ 0x09 ⌝ }
@@ -68,7 +68,7 @@ pub fn column_0f(cpu: Processor, memory: &[u8], reads: &mut [u8], writes: &[u8],
     }
 }
 
-// d,#i; X and d.
+// d,#i; in the last two rows MOV d,X and MOV X,d.
 pub fn column_18(cpu: Processor, memory: &[u8], reads: &mut [u8], writes: &[u8], op: u8) -> Operands
     requires { ⌜ Sized (world (now memory) (now reads) (now writes)) ⌝ }
     requires { ⌜ bitAnd op 0x1F ≡ 0x18 ⌝ }
@@ -80,7 +80,7 @@ pub fn column_18(cpu: Processor, memory: &[u8], reads: &mut [u8], writes: &[u8],
     places::d(cpu, memory, reads, writes, op)
 }
 
-// (X),(Y); X and d+Y.
+// (X),(Y); in the last two rows MOV d+Y,X and MOV X,d+Y.
 pub fn column_19(cpu: Processor, memory: &[u8], reads: &mut [u8], writes: &[u8], op: u8) -> Operands
     requires { ⌜ Sized (world (now memory) (now reads) (now writes)) ⌝ }
     requires { ⌜ bitAnd op 0x1F ≡ 0x19 ⌝ }
