@@ -5,8 +5,10 @@ ghost use Rattle.memory.specs.World.{Sized, world};
 ghost use Rattle.memory.specs.Access.{Does, outcome};
 ghost use Rattle.instructions.specs.Gather.{gatherOf};
 ghost use Rattle.instructions.specs.Rows.{rowOf};
+use crate::bytes;
 use crate::places;
 use crate::several;
+use crate::ways;
 use instructions::Operands;
 use processor::Processor;
 
@@ -29,13 +31,13 @@ pub fn column_0d(cpu: Processor, memory: &[u8], reads: &mut [u8], writes: &[u8],
     ensures { λ r. ⌜ Does (gatherOf (rowOf op .mode) op cpu) (world (now (memory .entry)) (now (reads .entry)) (now (writes .entry))) (outcome r (now (memory .entry)) (now (reads .exit)) (now (writes .entry))) ⌝ }
 {
     match op {
-        opcodes::MOV_Y_IMM | opcodes::CMP_Y_IMM | opcodes::MOV_X_IMM => several::immediate(
+        opcodes::MOV_Y_IMM | opcodes::CMP_Y_IMM | opcodes::MOV_X_IMM => bytes::immediate(
             cpu,
             memory,
             reads,
             writes,
         ),
-        _ => several::implied(cpu),
+        _ => bytes::implied(cpu),
     }
 }
 
@@ -46,9 +48,9 @@ pub fn column_0e(cpu: Processor, memory: &[u8], reads: &mut [u8], writes: &[u8],
     ensures { λ r. ⌜ Does (gatherOf (rowOf op .mode) op cpu) (world (now (memory .entry)) (now (reads .entry)) (now (writes .entry))) (outcome r (now (memory .entry)) (now (reads .exit)) (now (writes .entry))) ⌝ }
 {
     match op {
-        opcodes::TSET1_ABS | opcodes::TCLR1_ABS => several::absolute(cpu, memory, reads, writes),
-        opcodes::CBNE_D_R | opcodes::DBNZ_D_R => several::direct(cpu, memory, reads, writes),
-        _ => several::pulled(cpu, memory, reads, writes),
+        opcodes::TSET1_ABS | opcodes::TCLR1_ABS => bytes::absolute(cpu, memory, reads, writes),
+        opcodes::CBNE_D_R | opcodes::DBNZ_D_R => bytes::direct(cpu, memory, reads, writes),
+        _ => bytes::pulled(cpu, memory, reads, writes),
     }
 }
 
@@ -59,12 +61,12 @@ pub fn column_0f(cpu: Processor, memory: &[u8], reads: &mut [u8], writes: &[u8],
     ensures { λ r. ⌜ Does (gatherOf (rowOf op .mode) op cpu) (world (now (memory .entry)) (now (reads .entry)) (now (writes .entry))) (outcome r (now (memory .entry)) (now (reads .exit)) (now (writes .entry))) ⌝ }
 {
     match op {
-        opcodes::BRK => several::vector_at(cpu, memory, reads, writes, 0xFFDE),
-        opcodes::PCALL => several::upper_page(cpu, memory, reads, writes),
-        opcodes::RET => several::pulled_word(cpu, memory, reads, writes),
+        opcodes::BRK => ways::vector_at(cpu, memory, reads, writes, 0xFFDE),
+        opcodes::PCALL => ways::upper_page(cpu, memory, reads, writes),
+        opcodes::RET => ways::pulled_word(cpu, memory, reads, writes),
         opcodes::MOV_D_IMM => several::immediate_to_direct(cpu, memory, reads, writes),
         opcodes::MOV_XINC_A => places::aim(modes::ix(cpu)),
-        _ => several::implied(cpu),
+        _ => bytes::implied(cpu),
     }
 }
 
@@ -112,10 +114,10 @@ pub fn column_1e(cpu: Processor, memory: &[u8], reads: &mut [u8], writes: &[u8],
     ensures { λ r. ⌜ Does (gatherOf (rowOf op .mode) op cpu) (world (now (memory .entry)) (now (reads .entry)) (now (writes .entry))) (outcome r (now (memory .entry)) (now (reads .exit)) (now (writes .entry))) ⌝ }
 {
     match op {
-        opcodes::CMP_X_ABS | opcodes::CMP_Y_ABS => several::absolute(cpu, memory, reads, writes),
-        opcodes::CMP_X_D | opcodes::CMP_Y_D => several::direct(cpu, memory, reads, writes),
-        opcodes::CBNE_DX_R => several::direct_x(cpu, memory, reads, writes),
-        _ => several::implied(cpu),
+        opcodes::CMP_X_ABS | opcodes::CMP_Y_ABS => bytes::absolute(cpu, memory, reads, writes),
+        opcodes::CMP_X_D | opcodes::CMP_Y_D => bytes::direct(cpu, memory, reads, writes),
+        opcodes::CBNE_DX_R => bytes::direct_x(cpu, memory, reads, writes),
+        _ => bytes::implied(cpu),
     }
 }
 
@@ -126,10 +128,10 @@ pub fn column_1f(cpu: Processor, memory: &[u8], reads: &mut [u8], writes: &[u8],
     ensures { λ r. ⌜ Does (gatherOf (rowOf op .mode) op cpu) (world (now (memory .entry)) (now (reads .entry)) (now (writes .entry))) (outcome r (now (memory .entry)) (now (reads .exit)) (now (writes .entry))) ⌝ }
 {
     match op {
-        opcodes::JMP_IAX => several::word_at_x(cpu, memory, reads, writes),
-        opcodes::CALL_ABS | opcodes::JMP_ABS => several::word(cpu, memory, reads, writes),
-        opcodes::RETI => several::pulled_three(cpu, memory, reads, writes),
+        opcodes::JMP_IAX => ways::word_at_x(cpu, memory, reads, writes),
+        opcodes::CALL_ABS | opcodes::JMP_ABS => ways::word(cpu, memory, reads, writes),
+        opcodes::RETI => ways::pulled_three(cpu, memory, reads, writes),
         opcodes::MOV_A_XINC => places::load(modes::ix(cpu), memory, reads, writes),
-        _ => several::implied(cpu),
+        _ => bytes::implied(cpu),
     }
 }

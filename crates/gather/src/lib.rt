@@ -1,7 +1,9 @@
 // All that an instruction reads before it stores.
+mod bytes;
 mod columns;
 mod places;
 mod several;
+mod ways;
 
 ghost use Rattle.memory.specs.World.{Sized, world};
 ghost use Rattle.memory.specs.Access.{Does, outcome};
@@ -25,29 +27,29 @@ pub fn gather(cpu: Processor, memory: &[u8], reads: &mut [u8], writes: &[u8], op
         0x19 => columns::column_19(cpu, memory, reads, writes, op),
         0x1A => columns::column_1a(cpu, memory, reads, writes, op),
         0x1E => columns::column_1e(cpu, memory, reads, writes, op),
-        0x00 => several::implied(cpu),
-        opcodes::TCALL_MASK => several::table_vector(cpu, memory, reads, writes, op),
-        opcodes::SET1_MASK => several::direct(cpu, memory, reads, writes),
-        opcodes::BBS_D_R_MASK => several::direct(cpu, memory, reads, writes),
+        0x00 => bytes::implied(cpu),
+        opcodes::TCALL_MASK => ways::table_vector(cpu, memory, reads, writes, op),
+        opcodes::SET1_MASK => bytes::direct(cpu, memory, reads, writes),
+        opcodes::BBS_D_R_MASK => bytes::direct(cpu, memory, reads, writes),
         0x04 => places::d(cpu, memory, reads, writes, op),
         0x05 => places::abs(cpu, memory, reads, writes, op),
         0x06 => places::place(modes::ix(cpu), memory, reads, writes, op),
         0x07 => places::idx(cpu, memory, reads, writes, op),
-        0x08 => several::immediate(cpu, memory, reads, writes),
+        0x08 => bytes::immediate(cpu, memory, reads, writes),
         0x0A => several::memory_bit(cpu, memory, reads, writes),
         0x0B => places::d(cpu, memory, reads, writes, op),
         0x0C => places::abs(cpu, memory, reads, writes, op),
-        0x10 => several::implied(cpu),
-        0x11 => several::table_vector(cpu, memory, reads, writes, op),
-        opcodes::CLR1_D => several::direct(cpu, memory, reads, writes),
-        opcodes::BBC_D_R_MASK => several::direct(cpu, memory, reads, writes),
+        0x10 => bytes::implied(cpu),
+        0x11 => ways::table_vector(cpu, memory, reads, writes, op),
+        opcodes::CLR1_D => bytes::direct(cpu, memory, reads, writes),
+        opcodes::BBC_D_R_MASK => bytes::direct(cpu, memory, reads, writes),
         0x14 => places::dx(cpu, memory, reads, writes, op),
         0x15 => places::absx(cpu, memory, reads, writes, op),
         0x16 => places::absy(cpu, memory, reads, writes, op),
         0x17 => places::idy(cpu, memory, reads, writes, op),
         0x1B => places::dx(cpu, memory, reads, writes, op),
-        0x1C => several::implied(cpu),
-        0x1D => several::implied(cpu),
+        0x1C => bytes::implied(cpu),
+        0x1D => bytes::implied(cpu),
         _ => columns::column_1f(cpu, memory, reads, writes, op),
     }
 }

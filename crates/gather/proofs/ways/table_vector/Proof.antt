@@ -1,8 +1,8 @@
 -- The address is the definition's own, and `vector_at` reads the word there.
 -- Assumes nothing.
 use borrow.Author.Needs.{needs}
-use Rattle.gather.proofs.several.table_vector.Statement.{statement}
-use Rattle.gather.proofs.several.table_vector.Tie as tie
+use Rattle.gather.proofs.ways.table_vector.Statement.{statement}
+use Rattle.gather.proofs.ways.table_vector.Tie as tie
 
 mul-vector-at : tie.Need-mul-vector-at
 mul-vector-at c = search needs

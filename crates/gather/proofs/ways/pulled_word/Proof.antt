@@ -3,8 +3,8 @@
 use Rattle.memory.proofs.Laws.{chain, ends}
 use Rattle.instructions.specs.Gather.{gatherOf}
 use borrow.Author.Needs.{needs}
-use Rattle.gather.proofs.several.pulled_word.Statement.{statement}
-use Rattle.gather.proofs.several.pulled_word.Tie as tie
+use Rattle.gather.proofs.ways.pulled_word.Statement.{statement}
+use Rattle.gather.proofs.ways.pulled_word.Tie as tie
 
 pull-from-stack-u16-requires : tie.Need-pull-from-stack-u16-requires
 pull-from-stack-u16-requires c κs = search needs

@@ -3,8 +3,8 @@
 use Rattle.memory.proofs.Laws.{chain}
 use Rattle.instructions.specs.Gather.{gatherOf}
 use borrow.Author.Needs.{needs}
-use Rattle.gather.proofs.several.direct.Statement.{statement}
-use Rattle.gather.proofs.several.direct.Tie as tie
+use Rattle.gather.proofs.bytes.direct.Statement.{statement}
+use Rattle.gather.proofs.bytes.direct.Tie as tie
 
 d-requires : tie.Need-d-requires
 d-requires c κs = search needs

@@ -3,8 +3,8 @@
 use Rattle.memory.proofs.Laws.{chain}
 use Rattle.instructions.specs.Gather.{gatherOf}
 use borrow.Author.Needs.{needs}
-use Rattle.gather.proofs.several.direct_x.Statement.{statement}
-use Rattle.gather.proofs.several.direct_x.Tie as tie
+use Rattle.gather.proofs.bytes.direct_x.Statement.{statement}
+use Rattle.gather.proofs.bytes.direct_x.Tie as tie
 
 dx-requires : tie.Need-dx-requires
 dx-requires c κs = search needs

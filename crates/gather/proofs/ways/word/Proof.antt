@@ -3,8 +3,8 @@
 use Rattle.memory.proofs.Laws.{chain, ends}
 use Rattle.instructions.specs.Gather.{gatherOf}
 use borrow.Author.Needs.{needs}
-use Rattle.gather.proofs.several.word.Statement.{statement}
-use Rattle.gather.proofs.several.word.Tie as tie
+use Rattle.gather.proofs.ways.word.Statement.{statement}
+use Rattle.gather.proofs.ways.word.Tie as tie
 
 abs-requires : tie.Need-abs-requires
 abs-requires c κs = search needs

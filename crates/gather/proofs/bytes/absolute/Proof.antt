@@ -3,8 +3,8 @@
 use Rattle.memory.proofs.Laws.{chain}
 use Rattle.instructions.specs.Gather.{gatherOf}
 use borrow.Author.Needs.{needs}
-use Rattle.gather.proofs.several.absolute.Statement.{statement}
-use Rattle.gather.proofs.several.absolute.Tie as tie
+use Rattle.gather.proofs.bytes.absolute.Statement.{statement}
+use Rattle.gather.proofs.bytes.absolute.Tie as tie
 
 abs-requires : tie.Need-abs-requires
 abs-requires c κs = search needs

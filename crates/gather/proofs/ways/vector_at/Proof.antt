@@ -3,8 +3,8 @@
 use borrow.Author.Needs.{needs}
 use Rattle.memory.proofs.Laws.{chain, ends}
 use Rattle.instructions.specs.Gather.{vector}
-use Rattle.gather.proofs.several.vector_at.Statement.{statement}
-use Rattle.gather.proofs.several.vector_at.Tie as tie
+use Rattle.gather.proofs.ways.vector_at.Statement.{statement}
+use Rattle.gather.proofs.ways.vector_at.Tie as tie
 
 read-u16-requires : tie.Need-read-u16-requires
 read-u16-requires c κs = search needs

@@ -3,8 +3,8 @@
 use Rattle.memory.proofs.Laws.{chain, ends}
 use Rattle.instructions.specs.Gather.{gatherOf}
 use borrow.Author.Needs.{needs}
-use Rattle.gather.proofs.several.word_at_x.Statement.{statement}
-use Rattle.gather.proofs.several.word_at_x.Tie as tie
+use Rattle.gather.proofs.ways.word_at_x.Statement.{statement}
+use Rattle.gather.proofs.ways.word_at_x.Tie as tie
 
 iax-requires : tie.Need-iax-requires
 iax-requires c κs = search needs
