@@ -30,6 +30,7 @@ pub fn effect_of(opcode: u8, o: Operands) -> Effect
         0x04..=0x07 | 0x14..=0x17 => families::accumulator(opcode / 32, o),
         0x09 | 0x18..=0x19 => families::pairs(opcode / 32, o),
         0x0B | 0x1B => families::shifts(opcode / 32, o),
+        // one arm with those above would cost a step six instructions more (docs/SPEED.md)
         0x0C => families::shifts(opcode / 32, o),
         // in the other columns, by the opcode's low digit, each opcode has an instruction of its own
         0x00 | 0x10 => column_0::column_0(opcode, o),

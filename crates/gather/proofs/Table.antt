@@ -3,7 +3,7 @@
 use Prim.Native.Nat.{ℕ, _<_, _≤_}
 use mathlib.Core.Path.{_≡_}
 use mathlib.Core.Bool.{Bool, true, false, cond, not, _&&_, _||_}
-use mathlib.Core.List.{List, [], _∷_}
+use mathlib.Core.List.{List}
 use lib.Bits.{bitAnd}
 use lib.Dec.{T, eqb, ltb, eqb-refl, eqb→eq}
 use borrow.Author.Tests.{lt-ltb, le-ltb}
