@@ -2,9 +2,8 @@
 mod phases;
 
 ghost use mathlib.Core.Path.{_≡_};
-ghost use Rattle.memory.specs.World.{Sized, world};
-ghost use Rattle.memory.specs.Access.{outcome, perform};
-ghost use Rattle.engine.specs.Entry.{ran, accepted, refusalOf, countedStep, runOf, stepAnswer, runAnswer};
+ghost use Rattle.memory.specs.Contracts.{before, Ready, Yields};
+ghost use Rattle.engine.specs.Entry.{ran, accepted, refusalOf, runOf, stepAnswer, runAnswer};
 use processor::Processor;
 
 // What a step or a run answers. Refused: `refusal` is its number, the record is as given, the other numbers are 0.
@@ -28,7 +27,7 @@ fn refused(refusal: u8, cpu: Processor) -> Ran
 
 // The first test that the lengths of memory and maps do not pass, or 0.
 fn refusal_of(memory: &[u8], reads: &[u8], writes: &[u8]) -> u8
-    ensures { λ r. ⌜ r ≡ refusalOf (world (now (memory .entry)) (now (reads .entry)) (now (writes .entry))) ⌝ }
+    ensures { λ r. ⌜ r ≡ refusalOf (before memory reads writes) ⌝ }
 {
     if memory.len() != 65536 {
         return 1;
@@ -42,21 +41,6 @@ fn refusal_of(memory: &[u8], reads: &[u8], writes: &[u8]) -> u8
     0
 }
 
-// A step on memory and maps whose lengths are known.
-fn take_step(cpu: Processor, memory: &mut [u8], reads: &mut [u8], writes: &mut [u8]) -> Ran
-    requires { ⌜ Sized (world (now memory) (now reads) (now writes)) ⌝ }
-    ensures { λ r. ⌜ outcome r (now (memory .exit)) (now (reads .exit)) (now (writes .exit)) ≡ accepted (perform (countedStep cpu) (world (now (memory .entry)) (now (reads .entry)) (now (writes .entry)))) ⌝ }
-{
-    let stepped = phases::instruction(cpu, memory, reads, writes);
-    let next = stepped.cpu;
-    Ran {
-        refusal: 0,
-        cpu: next,
-        steps: 1,
-        stop: stepped.stop,
-    }
-}
-
 // Steps until the budget is spent or one of them stops, on memory and maps whose lengths are known.
 fn take_steps(
     cpu: Processor,
@@ -65,8 +49,8 @@ fn take_steps(
     writes: &mut [u8],
     budget: u32,
 ) -> Ran
-    requires { ⌜ Sized (world (now memory) (now reads) (now writes)) ⌝ }
-    ensures { λ r. ⌜ outcome r (now (memory .exit)) (now (reads .exit)) (now (writes .exit)) ≡ accepted (runOf budget cpu (world (now (memory .entry)) (now (reads .entry)) (now (writes .entry)))) ⌝ }
+    requires { ⌜ Ready memory reads writes ⌝ }
+    ensures { λ r. ⌜ Yields (λ w. accepted (runOf budget cpu w)) memory reads writes r ⌝ }
 {
     let mut next = cpu;
     let mut steps: u32 = 0;
@@ -85,18 +69,8 @@ fn take_steps(
     }
 }
 
-// One step. Refusals: 1 memory is not 65,536 bytes, 2 a map is not 8,192 bytes.
-pub fn step(cpu: Processor, memory: &mut [u8], reads: &mut [u8], writes: &mut [u8]) -> Ran
-    ensures { λ r. ⌜ outcome r (now (memory .exit)) (now (reads .exit)) (now (writes .exit)) ≡ stepAnswer cpu (world (now (memory .entry)) (now (reads .entry)) (now (writes .entry))) ⌝ }
-{
-    let refusal = refusal_of(memory, reads, writes);
-    if refusal != 0 {
-        return refused(refusal, cpu);
-    }
-    take_step(cpu, memory, reads, writes)
-}
-
-// A run: steps until the budget is spent (stop 0), SLEEP was executed (1) or STOP was executed (2). Refusals as for a step.
+// A run: steps until the budget is spent (stop 0), SLEEP was executed (1) or STOP was executed (2). Refusals: 1 memory is not 65,536
+// bytes, 2 a map is not 8,192 bytes.
 pub fn run(
     cpu: Processor,
     memory: &mut [u8],
@@ -104,11 +78,19 @@ pub fn run(
     writes: &mut [u8],
     budget: u32,
 ) -> Ran
-    ensures { λ r. ⌜ outcome r (now (memory .exit)) (now (reads .exit)) (now (writes .exit)) ≡ runAnswer budget cpu (world (now (memory .entry)) (now (reads .entry)) (now (writes .entry))) ⌝ }
+    ensures { λ r. ⌜ Yields (runAnswer budget cpu) memory reads writes r ⌝ }
 {
     let refusal = refusal_of(memory, reads, writes);
     if refusal != 0 {
         return refused(refusal, cpu);
     }
     take_steps(cpu, memory, reads, writes, budget)
+}
+
+// One step: a run of budget 1, so that the step loop is the one caller of `instruction`, which is then compiled into it
+// (docs/SPEED.md). Refusals as for a run.
+pub fn step(cpu: Processor, memory: &mut [u8], reads: &mut [u8], writes: &mut [u8]) -> Ran
+    ensures { λ r. ⌜ Yields (stepAnswer cpu) memory reads writes r ⌝ }
+{
+    run(cpu, memory, reads, writes, 1)
 }

@@ -1,7 +1,6 @@
 // The phases of an instruction: a transaction. What it reads comes first, then what it makes of that, then the stores, and last a
 // taken displacement.
-ghost use Rattle.memory.specs.World.{Sized, world};
-ghost use Rattle.memory.specs.Access.{Does, outcome};
+ghost use Rattle.memory.specs.Contracts.{Ready, Performs};
 ghost use Rattle.instructions.specs.Step.{beginOf, commitOf, branchOf, finishOf, stepOf};
 use instructions::Begun;
 use instructions::Effect;
@@ -11,8 +10,8 @@ use processor::Processor;
 
 // The opcode, and what its instruction reads before it stores.
 fn begin(cpu: Processor, memory: &[u8], reads: &mut [u8], writes: &[u8]) -> Begun
-    requires { ⌜ Sized (world (now memory) (now reads) (now writes)) ⌝ }
-    ensures { λ r. ⌜ Does (beginOf cpu) (world (now (memory .entry)) (now (reads .entry)) (now (writes .entry))) (outcome r (now (memory .entry)) (now (reads .exit)) (now (writes .entry))) ⌝ }
+    requires { ⌜ Ready memory reads writes ⌝ }
+    ensures { λ r. ⌜ Performs (beginOf cpu) memory reads writes r ⌝ }
 {
     let fetched = modes::fetch_u8(cpu, memory, reads, writes);
     let next = fetched.cpu;
@@ -31,8 +30,8 @@ fn commit(
     writes: &mut [u8],
     stores: Stores,
 ) -> Processor
-    requires { ⌜ Sized (world (now memory) (now reads) (now writes)) ⌝ }
-    ensures { λ r. ⌜ Does (commitOf stores cpu) (world (now (memory .entry)) (now (reads .entry)) (now (writes .entry))) (outcome r (now (memory .exit)) (now (reads .entry)) (now (writes .exit))) ⌝ }
+    requires { ⌜ Ready memory reads writes ⌝ }
+    ensures { λ r. ⌜ Performs (commitOf stores cpu) memory reads writes r ⌝ }
 {
     match stores {
         Stores::Nothing => cpu,
@@ -60,8 +59,8 @@ fn interrupt(
     byte: u8,
     target: u16,
 ) -> Processor
-    requires { ⌜ Sized (world (now memory) (now reads) (now writes)) ⌝ }
-    ensures { λ r. ⌜ Does (commitOf (Stores.Break byte target) cpu) (world (now (memory .entry)) (now (reads .entry)) (now (writes .entry))) (outcome r (now (memory .exit)) (now (reads .entry)) (now (writes .exit))) ⌝ }
+    requires { ⌜ Ready memory reads writes ⌝ }
+    ensures { λ r. ⌜ Performs (commitOf (Stores.Break byte target) cpu) memory reads writes r ⌝ }
 {
     let pushed = modes::push_to_stack_u16(cpu, memory, reads, writes, cpu.pc);
     let mut next = modes::push_to_stack_u8(pushed, memory, reads, writes, byte);
@@ -71,8 +70,8 @@ fn interrupt(
 
 // A taken displacement.
 fn branch(cpu: Processor, memory: &[u8], reads: &mut [u8], writes: &[u8], taken: bool) -> Processor
-    requires { ⌜ Sized (world (now memory) (now reads) (now writes)) ⌝ }
-    ensures { λ r. ⌜ Does (branchOf taken cpu) (world (now (memory .entry)) (now (reads .entry)) (now (writes .entry))) (outcome r (now (memory .entry)) (now (reads .exit)) (now (writes .entry))) ⌝ }
+    requires { ⌜ Ready memory reads writes ⌝ }
+    ensures { λ r. ⌜ Performs (branchOf taken cpu) memory reads writes r ⌝ }
 {
     if taken {
         return modes::branch_imm(cpu, memory, reads, writes);
@@ -82,8 +81,8 @@ fn branch(cpu: Processor, memory: &[u8], reads: &mut [u8], writes: &[u8], taken:
 
 // The stores, and then the displacement.
 fn finish(made: Effect, memory: &mut [u8], reads: &mut [u8], writes: &mut [u8]) -> Stepped
-    requires { ⌜ Sized (world (now memory) (now reads) (now writes)) ⌝ }
-    ensures { λ r. ⌜ Does (finishOf made) (world (now (memory .entry)) (now (reads .entry)) (now (writes .entry))) (outcome r (now (memory .exit)) (now (reads .exit)) (now (writes .exit))) ⌝ }
+    requires { ⌜ Ready memory reads writes ⌝ }
+    ensures { λ r. ⌜ Performs (finishOf made) memory reads writes r ⌝ }
 {
     let cpu = made.cpu;
     let stores = made.stores;
@@ -102,8 +101,8 @@ pub fn instruction(
     reads: &mut [u8],
     writes: &mut [u8],
 ) -> Stepped
-    requires { ⌜ Sized (world (now memory) (now reads) (now writes)) ⌝ }
-    ensures { λ r. ⌜ Does (stepOf cpu) (world (now (memory .entry)) (now (reads .entry)) (now (writes .entry))) (outcome r (now (memory .exit)) (now (reads .exit)) (now (writes .exit))) ⌝ }
+    requires { ⌜ Ready memory reads writes ⌝ }
+    ensures { λ r. ⌜ Performs (stepOf cpu) memory reads writes r ⌝ }
 {
     let begun = begin(cpu, memory, reads, writes);
     let operands = begun.operands;

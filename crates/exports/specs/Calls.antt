@@ -2,12 +2,17 @@
 use Prim.Native.Nat.{ℕ, _+_, _*_, _^_}
 use mathlib.Core.Bool.{cond}
 use mathlib.Core.List.{List}
+use mathlib.Core.Path.{_≡_}
+use denote.Ref.{now}
 use lib.Dec.{eqb}
 use lib.ListN.{length}
+use Rattle.text.specs.Given.{Wanted, answerTo, bufferAfter}
 use Rattle.text.specs.declared.Written.{Written}
 use Rattle.marks.specs.declared.Counted.{Counted}
 use Rattle.memory.specs.World.{World}
-use Rattle.memory.specs.Access.{Outcome}
+use Rattle.memory.specs.Access.{Outcome, outcome}
+use Rattle.laws.specs.Lent.{Lent}
+use Rattle.memory.specs.Contracts.{before, after}
 use Rattle.processor.specs.declared.Processor.{Processor}
 use Rattle.state.specs.Registers.{registersOf, bytesOf}
 use Rattle.engine.specs.Entry.{stepAnswer, runAnswer}
@@ -33,6 +38,10 @@ handedBack registers w o =
     (called (packed 0 (o .result .stop) (o .result .steps)) (bytesOf (o .result .cpu)) (o .left))
     (called (packed (o .result .refusal) 0 0) registers w)
 
+-- What hands back what the engine answered promises, whatever memory and maps are: they are not lent to it.
+abbrev pub HandsBack : Ran → Lent → ℕ → Type 0
+HandsBack ran registers r = (w : World) → called r (now (registers .exit)) w ≡ handedBack (now (registers .entry)) w (outcome ran w)
+
 -- Refusal 6 exactly if the registers are not seven bytes, before all others.
 abbrev pub onBytes : (Processor → World → Outcome World Ran) → List ℕ → World → Called
 onBytes answer registers w =
@@ -47,9 +56,18 @@ stepCall = onBytes stepAnswer
 abbrev pub runCall : ℕ → List ℕ → World → Called
 runCall budget = onBytes (runAnswer budget)
 
+-- What a call promises: it answers and leaves what `call` makes of the registers' bytes, memory and maps.
+abbrev pub CallYields : (List ℕ → World → Called) → Lent → Lent → Lent → Lent → ℕ → Type 0
+CallYields call registers memory reads writes r =
+    called r (now (registers .exit)) (after memory reads writes) ≡ call (now (registers .entry)) (before memory reads writes)
+
 -- a count, and a text
 abbrev pub countNumber : Counted → ℕ
 countNumber c = packed (c .refusal) 0 (c .count)
 
 abbrev pub textNumber : Written → ℕ
 textNumber t = packed (t .refusal) 0 (t .length)
+
+-- What a call that is to give a text promises: the number of the text's own answer, and what the text's own call leaves in the buffer.
+abbrev pub TextYields : Wanted → Lent → ℕ → Type 0
+TextYields w text r = (r ≡ textNumber (answerTo w (now (text .entry)))) × (now (text .exit) ≡ bufferAfter w (now (text .entry)))

@@ -2,11 +2,9 @@
 // Every call takes its slices as pointer and length, has no condition, and answers one number.
 ghost use mathlib.Core.Path.{_≡_};
 ghost use lib.ListN.{length};
-ghost use Rattle.text.specs.Given.{answerTo, bufferAfter};
 ghost use Rattle.marks.specs.Maps.{countOf};
-ghost use Rattle.memory.specs.World.{World, world};
 ghost use Rattle.listing.specs.Instruction.{listedOf};
-ghost use Rattle.exports.specs.Calls.{packed, called, handedBack, stepCall, runCall, countNumber, textNumber};
+ghost use Rattle.exports.specs.Calls.{packed, HandsBack, stepCall, runCall, CallYields, countNumber, TextYields};
 use engine::Ran;
 
 // The one number that a call answers.
@@ -20,7 +18,7 @@ fn packed(refusal: u8, stop: u8, number: u32) -> u64
 // lent to it, so its contract holds whatever they are.
 fn hand_back(registers: &mut [u8], ran: Ran) -> u64
     requires { ⌜ length (now registers) ≡ 7 ⌝ }
-    ensures { λ r. ⌜ ((w : World) → called r (now (registers .exit)) w ≡ handedBack (now (registers .entry)) w (record { result = ran; left = w })) ⌝ }
+    ensures { λ r. ⌜ HandsBack ran registers r ⌝ }
 {
     let refusal = ran.refusal;
     if refusal != 0 {
@@ -39,7 +37,7 @@ pub extern "C" fn spc700_step(
     reads: &mut [u8],
     writes: &mut [u8],
 ) -> u64
-    ensures { λ r. ⌜ called r (now (registers .exit)) (world (now (memory .exit)) (now (reads .exit)) (now (writes .exit))) ≡ stepCall (now (registers .entry)) (world (now (memory .entry)) (now (reads .entry)) (now (writes .entry))) ⌝ }
+    ensures { λ r. ⌜ CallYields stepCall registers memory reads writes r ⌝ }
 {
     if registers.len() != 7 {
         return packed(6, 0, 0);
@@ -58,7 +56,7 @@ pub extern "C" fn spc700_run(
     reads: &mut [u8],
     writes: &mut [u8],
 ) -> u64
-    ensures { λ r. ⌜ called r (now (registers .exit)) (world (now (memory .exit)) (now (reads .exit)) (now (writes .exit))) ≡ runCall budget (now (registers .entry)) (world (now (memory .entry)) (now (reads .entry)) (now (writes .entry))) ⌝ }
+    ensures { λ r. ⌜ CallYields (runCall budget) registers memory reads writes r ⌝ }
 {
     if registers.len() != 7 {
         return packed(6, 0, 0);
@@ -80,8 +78,7 @@ pub extern "C" fn spc700_count(map: &[u8]) -> u64
 // One instruction's text from its bytes. Refusals: 4 fewer bytes than the instruction has, 3 a buffer that is too short.
 #[no_mangle]
 pub extern "C" fn spc700_text(code: &[u8], text: &mut [u8]) -> u64
-    ensures { λ r. ⌜ r ≡ textNumber (answerTo (listedOf (now (code .entry))) (now (text .entry))) ⌝ }
-    ensures { λ r. ⌜ now (text .exit) ≡ bufferAfter (listedOf (now (code .entry))) (now (text .entry)) ⌝ }
+    ensures { λ r. ⌜ TextYields (listedOf (now (code .entry))) text r ⌝ }
 {
     let written = listing::instruction(code, text);
     // a text has at most 80 bytes

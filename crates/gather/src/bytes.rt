@@ -1,7 +1,6 @@
 // Modes that read nothing, or one byte in every row.
-ghost use Rattle.memory.specs.World.{Sized, world};
-ghost use Rattle.memory.specs.Access.{Does, outcome};
 ghost use mathlib.Core.Path.{_≡_};
+ghost use Rattle.memory.specs.Contracts.{Ready, Performs};
 ghost use Rattle.instructions.specs.Rows.Mode.{immediate, direct, directX, absolute, pulled};
 ghost use Rattle.instructions.specs.Gather.{operands, gatherOf};
 use crate::places::load;
@@ -24,8 +23,8 @@ pub fn implied(cpu: Processor) -> Operands
 
 // d: the byte there.
 pub fn direct(cpu: Processor, memory: &[u8], reads: &mut [u8], writes: &[u8]) -> Operands
-    requires { ⌜ Sized (world (now memory) (now reads) (now writes)) ⌝ }
-    ensures { λ r. ⌜ Does (gatherOf direct 0 cpu) (world (now (memory .entry)) (now (reads .entry)) (now (writes .entry))) (outcome r (now (memory .entry)) (now (reads .exit)) (now (writes .entry))) ⌝ }
+    requires { ⌜ Ready memory reads writes ⌝ }
+    ensures { λ r. ⌜ Performs (gatherOf direct 0 cpu) memory reads writes r ⌝ }
 {
     let found = modes::d(cpu, memory, reads, writes);
     load(found, memory, reads, writes)
@@ -33,8 +32,8 @@ pub fn direct(cpu: Processor, memory: &[u8], reads: &mut [u8], writes: &[u8]) ->
 
 // d+X: the byte there.
 pub fn direct_x(cpu: Processor, memory: &[u8], reads: &mut [u8], writes: &[u8]) -> Operands
-    requires { ⌜ Sized (world (now memory) (now reads) (now writes)) ⌝ }
-    ensures { λ r. ⌜ Does (gatherOf directX 0 cpu) (world (now (memory .entry)) (now (reads .entry)) (now (writes .entry))) (outcome r (now (memory .entry)) (now (reads .exit)) (now (writes .entry))) ⌝ }
+    requires { ⌜ Ready memory reads writes ⌝ }
+    ensures { λ r. ⌜ Performs (gatherOf directX 0 cpu) memory reads writes r ⌝ }
 {
     let found = modes::dx(cpu, memory, reads, writes);
     load(found, memory, reads, writes)
@@ -42,8 +41,8 @@ pub fn direct_x(cpu: Processor, memory: &[u8], reads: &mut [u8], writes: &[u8]) 
 
 // !a: the byte there.
 pub fn absolute(cpu: Processor, memory: &[u8], reads: &mut [u8], writes: &[u8]) -> Operands
-    requires { ⌜ Sized (world (now memory) (now reads) (now writes)) ⌝ }
-    ensures { λ r. ⌜ Does (gatherOf absolute 0 cpu) (world (now (memory .entry)) (now (reads .entry)) (now (writes .entry))) (outcome r (now (memory .entry)) (now (reads .exit)) (now (writes .entry))) ⌝ }
+    requires { ⌜ Ready memory reads writes ⌝ }
+    ensures { λ r. ⌜ Performs (gatherOf absolute 0 cpu) memory reads writes r ⌝ }
 {
     let found = modes::abs(cpu, memory, reads, writes);
     load(found, memory, reads, writes)
@@ -65,16 +64,16 @@ fn byte_only(read: Produced) -> Operands
 
 // An operand byte.
 pub fn immediate(cpu: Processor, memory: &[u8], reads: &mut [u8], writes: &[u8]) -> Operands
-    requires { ⌜ Sized (world (now memory) (now reads) (now writes)) ⌝ }
-    ensures { λ r. ⌜ Does (gatherOf immediate 0 cpu) (world (now (memory .entry)) (now (reads .entry)) (now (writes .entry))) (outcome r (now (memory .entry)) (now (reads .exit)) (now (writes .entry))) ⌝ }
+    requires { ⌜ Ready memory reads writes ⌝ }
+    ensures { λ r. ⌜ Performs (gatherOf immediate 0 cpu) memory reads writes r ⌝ }
 {
     byte_only(modes::fetch_u8(cpu, memory, reads, writes))
 }
 
 // A byte from the stack.
 pub fn pulled(cpu: Processor, memory: &[u8], reads: &mut [u8], writes: &[u8]) -> Operands
-    requires { ⌜ Sized (world (now memory) (now reads) (now writes)) ⌝ }
-    ensures { λ r. ⌜ Does (gatherOf pulled 0 cpu) (world (now (memory .entry)) (now (reads .entry)) (now (writes .entry))) (outcome r (now (memory .entry)) (now (reads .exit)) (now (writes .entry))) ⌝ }
+    requires { ⌜ Ready memory reads writes ⌝ }
+    ensures { λ r. ⌜ Performs (gatherOf pulled 0 cpu) memory reads writes r ⌝ }
 {
     byte_only(modes::pull_from_stack_u8(cpu, memory, reads, writes))
 }

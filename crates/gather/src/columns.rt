@@ -1,8 +1,7 @@
 // The columns of the table whose rows do not all read alike. A column is the opcode's low five bits.
 ghost use mathlib.Core.Path.{_≡_};
 ghost use lib.Bits.{bitAnd};
-ghost use Rattle.memory.specs.World.{Sized, world};
-ghost use Rattle.memory.specs.Access.{Does, outcome};
+ghost use Rattle.memory.specs.Contracts.{Ready, Performs};
 ghost use Rattle.instructions.specs.Gather.{gatherOf};
 ghost use Rattle.instructions.specs.Rows.{rowOf};
 use crate::bytes;
@@ -14,9 +13,9 @@ use processor::Processor;
 
 // d,d; in the last two rows MOV !a,X and MOV X,!a.
 pub fn column_09(cpu: Processor, memory: &[u8], reads: &mut [u8], writes: &[u8], op: u8) -> Operands
-    requires { ⌜ Sized (world (now memory) (now reads) (now writes)) ⌝ }
+    requires { ⌜ Ready memory reads writes ⌝ }
     requires { ⌜ bitAnd op 0x1F ≡ 0x09 ⌝ }
-    ensures { λ r. ⌜ Does (gatherOf (rowOf op .mode) op cpu) (world (now (memory .entry)) (now (reads .entry)) (now (writes .entry))) (outcome r (now (memory .entry)) (now (reads .exit)) (now (writes .entry))) ⌝ }
+    ensures { λ r. ⌜ Performs (gatherOf (rowOf op .mode) op cpu) memory reads writes r ⌝ }
 {
     if op < 0xC0 {
         return several::direct_direct(cpu, memory, reads, writes);
@@ -26,9 +25,9 @@ pub fn column_09(cpu: Processor, memory: &[u8], reads: &mut [u8], writes: &[u8],
 
 // Immediates; pushes and moves between registers, which read nothing.
 pub fn column_0d(cpu: Processor, memory: &[u8], reads: &mut [u8], writes: &[u8], op: u8) -> Operands
-    requires { ⌜ Sized (world (now memory) (now reads) (now writes)) ⌝ }
+    requires { ⌜ Ready memory reads writes ⌝ }
     requires { ⌜ bitAnd op 0x1F ≡ 0x0D ⌝ }
-    ensures { λ r. ⌜ Does (gatherOf (rowOf op .mode) op cpu) (world (now (memory .entry)) (now (reads .entry)) (now (writes .entry))) (outcome r (now (memory .entry)) (now (reads .exit)) (now (writes .entry))) ⌝ }
+    ensures { λ r. ⌜ Performs (gatherOf (rowOf op .mode) op cpu) memory reads writes r ⌝ }
 {
     match op {
         opcodes::MOV_Y_IMM | opcodes::CMP_Y_IMM | opcodes::MOV_X_IMM => bytes::immediate(
@@ -43,9 +42,9 @@ pub fn column_0d(cpu: Processor, memory: &[u8], reads: &mut [u8], writes: &[u8],
 
 // TSET1 and TCLR1; CBNE and DBNZ; pops.
 pub fn column_0e(cpu: Processor, memory: &[u8], reads: &mut [u8], writes: &[u8], op: u8) -> Operands
-    requires { ⌜ Sized (world (now memory) (now reads) (now writes)) ⌝ }
+    requires { ⌜ Ready memory reads writes ⌝ }
     requires { ⌜ bitAnd op 0x1F ≡ 0x0E ⌝ }
-    ensures { λ r. ⌜ Does (gatherOf (rowOf op .mode) op cpu) (world (now (memory .entry)) (now (reads .entry)) (now (writes .entry))) (outcome r (now (memory .entry)) (now (reads .exit)) (now (writes .entry))) ⌝ }
+    ensures { λ r. ⌜ Performs (gatherOf (rowOf op .mode) op cpu) memory reads writes r ⌝ }
 {
     match op {
         opcodes::TSET1_ABS | opcodes::TCLR1_ABS => bytes::absolute(cpu, memory, reads, writes),
@@ -56,9 +55,9 @@ pub fn column_0e(cpu: Processor, memory: &[u8], reads: &mut [u8], writes: &[u8],
 
 // BRK, PCALL and RET; MOV d,#i and MOV (X)+,A; the rest reads nothing.
 pub fn column_0f(cpu: Processor, memory: &[u8], reads: &mut [u8], writes: &[u8], op: u8) -> Operands
-    requires { ⌜ Sized (world (now memory) (now reads) (now writes)) ⌝ }
+    requires { ⌜ Ready memory reads writes ⌝ }
     requires { ⌜ bitAnd op 0x1F ≡ 0x0F ⌝ }
-    ensures { λ r. ⌜ Does (gatherOf (rowOf op .mode) op cpu) (world (now (memory .entry)) (now (reads .entry)) (now (writes .entry))) (outcome r (now (memory .entry)) (now (reads .exit)) (now (writes .entry))) ⌝ }
+    ensures { λ r. ⌜ Performs (gatherOf (rowOf op .mode) op cpu) memory reads writes r ⌝ }
 {
     match op {
         opcodes::BRK => ways::vector_at(cpu, memory, reads, writes, 0xFFDE),
@@ -72,9 +71,9 @@ pub fn column_0f(cpu: Processor, memory: &[u8], reads: &mut [u8], writes: &[u8],
 
 // d,#i; in the last two rows MOV d,X and MOV X,d.
 pub fn column_18(cpu: Processor, memory: &[u8], reads: &mut [u8], writes: &[u8], op: u8) -> Operands
-    requires { ⌜ Sized (world (now memory) (now reads) (now writes)) ⌝ }
+    requires { ⌜ Ready memory reads writes ⌝ }
     requires { ⌜ bitAnd op 0x1F ≡ 0x18 ⌝ }
-    ensures { λ r. ⌜ Does (gatherOf (rowOf op .mode) op cpu) (world (now (memory .entry)) (now (reads .entry)) (now (writes .entry))) (outcome r (now (memory .entry)) (now (reads .exit)) (now (writes .entry))) ⌝ }
+    ensures { λ r. ⌜ Performs (gatherOf (rowOf op .mode) op cpu) memory reads writes r ⌝ }
 {
     if op < 0xC0 {
         return several::direct_immediate(cpu, memory, reads, writes);
@@ -84,9 +83,9 @@ pub fn column_18(cpu: Processor, memory: &[u8], reads: &mut [u8], writes: &[u8],
 
 // (X),(Y); in the last two rows MOV d+Y,X and MOV X,d+Y.
 pub fn column_19(cpu: Processor, memory: &[u8], reads: &mut [u8], writes: &[u8], op: u8) -> Operands
-    requires { ⌜ Sized (world (now memory) (now reads) (now writes)) ⌝ }
+    requires { ⌜ Ready memory reads writes ⌝ }
     requires { ⌜ bitAnd op 0x1F ≡ 0x19 ⌝ }
-    ensures { λ r. ⌜ Does (gatherOf (rowOf op .mode) op cpu) (world (now (memory .entry)) (now (reads .entry)) (now (writes .entry))) (outcome r (now (memory .entry)) (now (reads .exit)) (now (writes .entry))) ⌝ }
+    ensures { λ r. ⌜ Performs (gatherOf (rowOf op .mode) op cpu) memory reads writes r ⌝ }
 {
     if op < 0xC0 {
         return several::at_x_at_y(cpu, memory, reads, writes);
@@ -96,9 +95,9 @@ pub fn column_19(cpu: Processor, memory: &[u8], reads: &mut [u8], writes: &[u8],
 
 // Words of the direct page; MOV d,d.
 pub fn column_1a(cpu: Processor, memory: &[u8], reads: &mut [u8], writes: &[u8], op: u8) -> Operands
-    requires { ⌜ Sized (world (now memory) (now reads) (now writes)) ⌝ }
+    requires { ⌜ Ready memory reads writes ⌝ }
     requires { ⌜ bitAnd op 0x1F ≡ 0x1A ⌝ }
-    ensures { λ r. ⌜ Does (gatherOf (rowOf op .mode) op cpu) (world (now (memory .entry)) (now (reads .entry)) (now (writes .entry))) (outcome r (now (memory .entry)) (now (reads .exit)) (now (writes .entry))) ⌝ }
+    ensures { λ r. ⌜ Performs (gatherOf (rowOf op .mode) op cpu) memory reads writes r ⌝ }
 {
     match op {
         opcodes::MOVW_D_YA => several::to_direct_word(cpu, memory, reads, writes),
@@ -109,9 +108,9 @@ pub fn column_1a(cpu: Processor, memory: &[u8], reads: &mut [u8], writes: &[u8],
 
 // CMP of X and Y; CBNE d+X; the rest reads nothing.
 pub fn column_1e(cpu: Processor, memory: &[u8], reads: &mut [u8], writes: &[u8], op: u8) -> Operands
-    requires { ⌜ Sized (world (now memory) (now reads) (now writes)) ⌝ }
+    requires { ⌜ Ready memory reads writes ⌝ }
     requires { ⌜ bitAnd op 0x1F ≡ 0x1E ⌝ }
-    ensures { λ r. ⌜ Does (gatherOf (rowOf op .mode) op cpu) (world (now (memory .entry)) (now (reads .entry)) (now (writes .entry))) (outcome r (now (memory .entry)) (now (reads .exit)) (now (writes .entry))) ⌝ }
+    ensures { λ r. ⌜ Performs (gatherOf (rowOf op .mode) op cpu) memory reads writes r ⌝ }
 {
     match op {
         opcodes::CMP_X_ABS | opcodes::CMP_Y_ABS => bytes::absolute(cpu, memory, reads, writes),
@@ -123,9 +122,9 @@ pub fn column_1e(cpu: Processor, memory: &[u8], reads: &mut [u8], writes: &[u8],
 
 // Jumps, CALL and RETI; MOV A,(X)+; the rest reads nothing.
 pub fn column_1f(cpu: Processor, memory: &[u8], reads: &mut [u8], writes: &[u8], op: u8) -> Operands
-    requires { ⌜ Sized (world (now memory) (now reads) (now writes)) ⌝ }
+    requires { ⌜ Ready memory reads writes ⌝ }
     requires { ⌜ bitAnd op 0x1F ≡ 0x1F ⌝ }
-    ensures { λ r. ⌜ Does (gatherOf (rowOf op .mode) op cpu) (world (now (memory .entry)) (now (reads .entry)) (now (writes .entry))) (outcome r (now (memory .entry)) (now (reads .exit)) (now (writes .entry))) ⌝ }
+    ensures { λ r. ⌜ Performs (gatherOf (rowOf op .mode) op cpu) memory reads writes r ⌝ }
 {
     match op {
         opcodes::JMP_IAX => ways::word_at_x(cpu, memory, reads, writes),

@@ -5,8 +5,7 @@ mod places;
 mod several;
 mod ways;
 
-ghost use Rattle.memory.specs.World.{Sized, world};
-ghost use Rattle.memory.specs.Access.{Does, outcome};
+ghost use Rattle.memory.specs.Contracts.{Ready, Performs};
 ghost use Rattle.instructions.specs.Gather.{gatherOf};
 ghost use Rattle.instructions.specs.Rows.{rowOf};
 use instructions::Operands;
@@ -15,8 +14,8 @@ use processor::Processor;
 // What the opcode's row reads, with PC behind the opcode. The low five bits pick a column of the table; first come the columns whose rows
 // do not all read alike. Each column has an arm of its own, also where two do the same: a step is then cheaper (docs/SPEED.md).
 pub fn gather(cpu: Processor, memory: &[u8], reads: &mut [u8], writes: &[u8], op: u8) -> Operands
-    requires { ⌜ Sized (world (now memory) (now reads) (now writes)) ⌝ }
-    ensures { λ r. ⌜ Does (gatherOf (rowOf op .mode) op cpu) (world (now (memory .entry)) (now (reads .entry)) (now (writes .entry))) (outcome r (now (memory .entry)) (now (reads .exit)) (now (writes .entry))) ⌝ }
+    requires { ⌜ Ready memory reads writes ⌝ }
+    ensures { λ r. ⌜ Performs (gatherOf (rowOf op .mode) op cpu) memory reads writes r ⌝ }
 {
     match op & 0x1F {
         0x09 => columns::column_09(cpu, memory, reads, writes, op),

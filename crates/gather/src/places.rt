@@ -1,7 +1,7 @@
 // What an address that a mode found is for: the byte there, or the address alone.
 ghost use mathlib.Core.Path.{_≡_};
-ghost use Rattle.memory.specs.World.{Sized, world};
-ghost use Rattle.memory.specs.Access.{Does, outcome, then};
+ghost use Rattle.memory.specs.Contracts.{Ready, Performs};
+ghost use Rattle.memory.specs.Access.{then};
 ghost use Rattle.modes.specs.Modes as mode;
 ghost use Rattle.instructions.specs.Gather.{operands, loaded};
 ghost use Rattle.gather.specs.Columns.{placed};
@@ -25,8 +25,8 @@ pub fn aim(found: Addressed) -> Operands
 
 // An address with the byte that stands there.
 pub fn load(found: Addressed, memory: &[u8], reads: &mut [u8], writes: &[u8]) -> Operands
-    requires { ⌜ Sized (world (now memory) (now reads) (now writes)) ⌝ }
-    ensures { λ r. ⌜ Does (loaded found) (world (now (memory .entry)) (now (reads .entry)) (now (writes .entry))) (outcome r (now (memory .entry)) (now (reads .exit)) (now (writes .entry))) ⌝ }
+    requires { ⌜ Ready memory reads writes ⌝ }
+    ensures { λ r. ⌜ Performs (loaded found) memory reads writes r ⌝ }
 {
     let low = memory::read(memory, reads, writes, found.at);
     let cpu = found.cpu;
@@ -41,8 +41,8 @@ pub fn load(found: Addressed, memory: &[u8], reads: &mut [u8], writes: &[u8]) ->
 
 // Either, by the opcode: where A, X and Y are loaded and stored, the stores are the opcodes whose top three bits are 6.
 pub fn place(found: Addressed, memory: &[u8], reads: &mut [u8], writes: &[u8], op: u8) -> Operands
-    requires { ⌜ Sized (world (now memory) (now reads) (now writes)) ⌝ }
-    ensures { λ r. ⌜ Does (placed op found) (world (now (memory .entry)) (now (reads .entry)) (now (writes .entry))) (outcome r (now (memory .entry)) (now (reads .exit)) (now (writes .entry))) ⌝ }
+    requires { ⌜ Ready memory reads writes ⌝ }
+    ensures { λ r. ⌜ Performs (placed op found) memory reads writes r ⌝ }
 {
     if op / 32 == 6 {
         return aim(found);
@@ -52,8 +52,8 @@ pub fn place(found: Addressed, memory: &[u8], reads: &mut [u8], writes: &[u8], o
 
 // d
 pub fn d(cpu: Processor, memory: &[u8], reads: &mut [u8], writes: &[u8], op: u8) -> Operands
-    requires { ⌜ Sized (world (now memory) (now reads) (now writes)) ⌝ }
-    ensures { λ r. ⌜ Does (then (mode.direct 0 cpu) (placed op)) (world (now (memory .entry)) (now (reads .entry)) (now (writes .entry))) (outcome r (now (memory .entry)) (now (reads .exit)) (now (writes .entry))) ⌝ }
+    requires { ⌜ Ready memory reads writes ⌝ }
+    ensures { λ r. ⌜ Performs (then (mode.direct 0 cpu) (placed op)) memory reads writes r ⌝ }
 {
     let found = modes::d(cpu, memory, reads, writes);
     place(found, memory, reads, writes, op)
@@ -61,8 +61,8 @@ pub fn d(cpu: Processor, memory: &[u8], reads: &mut [u8], writes: &[u8], op: u8)
 
 // d+X
 pub fn dx(cpu: Processor, memory: &[u8], reads: &mut [u8], writes: &[u8], op: u8) -> Operands
-    requires { ⌜ Sized (world (now memory) (now reads) (now writes)) ⌝ }
-    ensures { λ r. ⌜ Does (then (mode.direct (cpu .x) cpu) (placed op)) (world (now (memory .entry)) (now (reads .entry)) (now (writes .entry))) (outcome r (now (memory .entry)) (now (reads .exit)) (now (writes .entry))) ⌝ }
+    requires { ⌜ Ready memory reads writes ⌝ }
+    ensures { λ r. ⌜ Performs (then (mode.direct (cpu .x) cpu) (placed op)) memory reads writes r ⌝ }
 {
     let found = modes::dx(cpu, memory, reads, writes);
     place(found, memory, reads, writes, op)
@@ -70,8 +70,8 @@ pub fn dx(cpu: Processor, memory: &[u8], reads: &mut [u8], writes: &[u8], op: u8
 
 // d+Y
 pub fn dy(cpu: Processor, memory: &[u8], reads: &mut [u8], writes: &[u8], op: u8) -> Operands
-    requires { ⌜ Sized (world (now memory) (now reads) (now writes)) ⌝ }
-    ensures { λ r. ⌜ Does (then (mode.direct (cpu .y) cpu) (placed op)) (world (now (memory .entry)) (now (reads .entry)) (now (writes .entry))) (outcome r (now (memory .entry)) (now (reads .exit)) (now (writes .entry))) ⌝ }
+    requires { ⌜ Ready memory reads writes ⌝ }
+    ensures { λ r. ⌜ Performs (then (mode.direct (cpu .y) cpu) (placed op)) memory reads writes r ⌝ }
 {
     let found = modes::dy(cpu, memory, reads, writes);
     place(found, memory, reads, writes, op)
@@ -79,8 +79,8 @@ pub fn dy(cpu: Processor, memory: &[u8], reads: &mut [u8], writes: &[u8], op: u8
 
 // !a
 pub fn abs(cpu: Processor, memory: &[u8], reads: &mut [u8], writes: &[u8], op: u8) -> Operands
-    requires { ⌜ Sized (world (now memory) (now reads) (now writes)) ⌝ }
-    ensures { λ r. ⌜ Does (then (mode.absolute 0 cpu) (placed op)) (world (now (memory .entry)) (now (reads .entry)) (now (writes .entry))) (outcome r (now (memory .entry)) (now (reads .exit)) (now (writes .entry))) ⌝ }
+    requires { ⌜ Ready memory reads writes ⌝ }
+    ensures { λ r. ⌜ Performs (then (mode.absolute 0 cpu) (placed op)) memory reads writes r ⌝ }
 {
     let found = modes::abs(cpu, memory, reads, writes);
     place(found, memory, reads, writes, op)
@@ -88,8 +88,8 @@ pub fn abs(cpu: Processor, memory: &[u8], reads: &mut [u8], writes: &[u8], op: u
 
 // !a+X
 pub fn absx(cpu: Processor, memory: &[u8], reads: &mut [u8], writes: &[u8], op: u8) -> Operands
-    requires { ⌜ Sized (world (now memory) (now reads) (now writes)) ⌝ }
-    ensures { λ r. ⌜ Does (then (mode.absolute (cpu .x) cpu) (placed op)) (world (now (memory .entry)) (now (reads .entry)) (now (writes .entry))) (outcome r (now (memory .entry)) (now (reads .exit)) (now (writes .entry))) ⌝ }
+    requires { ⌜ Ready memory reads writes ⌝ }
+    ensures { λ r. ⌜ Performs (then (mode.absolute (cpu .x) cpu) (placed op)) memory reads writes r ⌝ }
 {
     let found = modes::absx(cpu, memory, reads, writes);
     place(found, memory, reads, writes, op)
@@ -97,8 +97,8 @@ pub fn absx(cpu: Processor, memory: &[u8], reads: &mut [u8], writes: &[u8], op: 
 
 // !a+Y
 pub fn absy(cpu: Processor, memory: &[u8], reads: &mut [u8], writes: &[u8], op: u8) -> Operands
-    requires { ⌜ Sized (world (now memory) (now reads) (now writes)) ⌝ }
-    ensures { λ r. ⌜ Does (then (mode.absolute (cpu .y) cpu) (placed op)) (world (now (memory .entry)) (now (reads .entry)) (now (writes .entry))) (outcome r (now (memory .entry)) (now (reads .exit)) (now (writes .entry))) ⌝ }
+    requires { ⌜ Ready memory reads writes ⌝ }
+    ensures { λ r. ⌜ Performs (then (mode.absolute (cpu .y) cpu) (placed op)) memory reads writes r ⌝ }
 {
     let found = modes::absy(cpu, memory, reads, writes);
     place(found, memory, reads, writes, op)
@@ -106,8 +106,8 @@ pub fn absy(cpu: Processor, memory: &[u8], reads: &mut [u8], writes: &[u8], op: 
 
 // [d+X]
 pub fn idx(cpu: Processor, memory: &[u8], reads: &mut [u8], writes: &[u8], op: u8) -> Operands
-    requires { ⌜ Sized (world (now memory) (now reads) (now writes)) ⌝ }
-    ensures { λ r. ⌜ Does (then (mode.pointerX cpu) (placed op)) (world (now (memory .entry)) (now (reads .entry)) (now (writes .entry))) (outcome r (now (memory .entry)) (now (reads .exit)) (now (writes .entry))) ⌝ }
+    requires { ⌜ Ready memory reads writes ⌝ }
+    ensures { λ r. ⌜ Performs (then (mode.pointerX cpu) (placed op)) memory reads writes r ⌝ }
 {
     let found = modes::idx(cpu, memory, reads, writes);
     place(found, memory, reads, writes, op)
@@ -115,8 +115,8 @@ pub fn idx(cpu: Processor, memory: &[u8], reads: &mut [u8], writes: &[u8], op: u
 
 // [d]+Y
 pub fn idy(cpu: Processor, memory: &[u8], reads: &mut [u8], writes: &[u8], op: u8) -> Operands
-    requires { ⌜ Sized (world (now memory) (now reads) (now writes)) ⌝ }
-    ensures { λ r. ⌜ Does (then (mode.pointerY cpu) (placed op)) (world (now (memory .entry)) (now (reads .entry)) (now (writes .entry))) (outcome r (now (memory .entry)) (now (reads .exit)) (now (writes .entry))) ⌝ }
+    requires { ⌜ Ready memory reads writes ⌝ }
+    ensures { λ r. ⌜ Performs (then (mode.pointerY cpu) (placed op)) memory reads writes r ⌝ }
 {
     let found = modes::idy(cpu, memory, reads, writes);
     place(found, memory, reads, writes, op)

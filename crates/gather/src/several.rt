@@ -1,8 +1,7 @@
 // Modes that read more than one thing.
-ghost use Rattle.memory.specs.World.{Sized, world};
-ghost use Rattle.memory.specs.Access.{Does, outcome};
 ghost use Prim.Native.Nat.{_^_, _≤_};
 ghost use mathlib.Core.Path.{_≡_};
+ghost use Rattle.memory.specs.Contracts.{Ready, Performs};
 ghost use Rattle.instructions.specs.Rows.Mode.{directDirect, directToDirect, directImmediate, immediateToDirect, atXatY, directWord, toDirectWord, memoryBit};
 ghost use Rattle.instructions.specs.Gather.{bothLoaded, sourceLoaded, gatherOf};
 use instructions::Operands;
@@ -17,8 +16,8 @@ fn load_both(
     writes: &[u8],
     source: u16,
 ) -> Operands
-    requires { ⌜ Sized (world (now memory) (now reads) (now writes)) ⌝ }
-    ensures { λ r. ⌜ Does (bothLoaded source found) (world (now (memory .entry)) (now (reads .entry)) (now (writes .entry))) (outcome r (now (memory .entry)) (now (reads .exit)) (now (writes .entry))) ⌝ }
+    requires { ⌜ Ready memory reads writes ⌝ }
+    ensures { λ r. ⌜ Performs (bothLoaded source found) memory reads writes r ⌝ }
 {
     let low = memory::read(memory, reads, writes, source);
     let high = memory::read(memory, reads, writes, found.at);
@@ -40,8 +39,8 @@ fn load_source(
     writes: &[u8],
     source: u16,
 ) -> Operands
-    requires { ⌜ Sized (world (now memory) (now reads) (now writes)) ⌝ }
-    ensures { λ r. ⌜ Does (sourceLoaded source found) (world (now (memory .entry)) (now (reads .entry)) (now (writes .entry))) (outcome r (now (memory .entry)) (now (reads .exit)) (now (writes .entry))) ⌝ }
+    requires { ⌜ Ready memory reads writes ⌝ }
+    ensures { λ r. ⌜ Performs (sourceLoaded source found) memory reads writes r ⌝ }
 {
     let low = memory::read(memory, reads, writes, source);
     let cpu = found.cpu;
@@ -56,8 +55,8 @@ fn load_source(
 
 // d,d: the source's operand byte comes first.
 pub fn direct_direct(cpu: Processor, memory: &[u8], reads: &mut [u8], writes: &[u8]) -> Operands
-    requires { ⌜ Sized (world (now memory) (now reads) (now writes)) ⌝ }
-    ensures { λ r. ⌜ Does (gatherOf directDirect 0 cpu) (world (now (memory .entry)) (now (reads .entry)) (now (writes .entry))) (outcome r (now (memory .entry)) (now (reads .exit)) (now (writes .entry))) ⌝ }
+    requires { ⌜ Ready memory reads writes ⌝ }
+    ensures { λ r. ⌜ Performs (gatherOf directDirect 0 cpu) memory reads writes r ⌝ }
 {
     let source = modes::d(cpu, memory, reads, writes);
     let next = source.cpu;
@@ -67,8 +66,8 @@ pub fn direct_direct(cpu: Processor, memory: &[u8], reads: &mut [u8], writes: &[
 
 // d,d for MOV, which does not read its target.
 pub fn direct_to_direct(cpu: Processor, memory: &[u8], reads: &mut [u8], writes: &[u8]) -> Operands
-    requires { ⌜ Sized (world (now memory) (now reads) (now writes)) ⌝ }
-    ensures { λ r. ⌜ Does (gatherOf directToDirect 0 cpu) (world (now (memory .entry)) (now (reads .entry)) (now (writes .entry))) (outcome r (now (memory .entry)) (now (reads .exit)) (now (writes .entry))) ⌝ }
+    requires { ⌜ Ready memory reads writes ⌝ }
+    ensures { λ r. ⌜ Performs (gatherOf directToDirect 0 cpu) memory reads writes r ⌝ }
 {
     let source = modes::d(cpu, memory, reads, writes);
     let next = source.cpu;
@@ -78,8 +77,8 @@ pub fn direct_to_direct(cpu: Processor, memory: &[u8], reads: &mut [u8], writes:
 
 // d,#i: the immediate comes first.
 pub fn direct_immediate(cpu: Processor, memory: &[u8], reads: &mut [u8], writes: &[u8]) -> Operands
-    requires { ⌜ Sized (world (now memory) (now reads) (now writes)) ⌝ }
-    ensures { λ r. ⌜ Does (gatherOf directImmediate 0 cpu) (world (now (memory .entry)) (now (reads .entry)) (now (writes .entry))) (outcome r (now (memory .entry)) (now (reads .exit)) (now (writes .entry))) ⌝ }
+    requires { ⌜ Ready memory reads writes ⌝ }
+    ensures { λ r. ⌜ Performs (gatherOf directImmediate 0 cpu) memory reads writes r ⌝ }
 {
     let immediate = modes::fetch_u8(cpu, memory, reads, writes);
     let next = immediate.cpu;
@@ -102,8 +101,8 @@ pub fn immediate_to_direct(
     reads: &mut [u8],
     writes: &[u8],
 ) -> Operands
-    requires { ⌜ Sized (world (now memory) (now reads) (now writes)) ⌝ }
-    ensures { λ r. ⌜ Does (gatherOf immediateToDirect 0 cpu) (world (now (memory .entry)) (now (reads .entry)) (now (writes .entry))) (outcome r (now (memory .entry)) (now (reads .exit)) (now (writes .entry))) ⌝ }
+    requires { ⌜ Ready memory reads writes ⌝ }
+    ensures { λ r. ⌜ Performs (gatherOf immediateToDirect 0 cpu) memory reads writes r ⌝ }
 {
     let immediate = modes::fetch_u8(cpu, memory, reads, writes);
     let next = immediate.cpu;
@@ -120,8 +119,8 @@ pub fn immediate_to_direct(
 
 // (X),(Y): (Y) is the source.
 pub fn at_x_at_y(cpu: Processor, memory: &[u8], reads: &mut [u8], writes: &[u8]) -> Operands
-    requires { ⌜ Sized (world (now memory) (now reads) (now writes)) ⌝ }
-    ensures { λ r. ⌜ Does (gatherOf atXatY 0 cpu) (world (now (memory .entry)) (now (reads .entry)) (now (writes .entry))) (outcome r (now (memory .entry)) (now (reads .exit)) (now (writes .entry))) ⌝ }
+    requires { ⌜ Ready memory reads writes ⌝ }
+    ensures { λ r. ⌜ Performs (gatherOf atXatY 0 cpu) memory reads writes r ⌝ }
 {
     let source = modes::iy(cpu);
     load_both(modes::ix(cpu), memory, reads, writes, source.at)
@@ -129,8 +128,8 @@ pub fn at_x_at_y(cpu: Processor, memory: &[u8], reads: &mut [u8], writes: &[u8])
 
 // A word of the direct page.
 pub fn direct_word(cpu: Processor, memory: &[u8], reads: &mut [u8], writes: &[u8]) -> Operands
-    requires { ⌜ Sized (world (now memory) (now reads) (now writes)) ⌝ }
-    ensures { λ r. ⌜ Does (gatherOf directWord 0 cpu) (world (now (memory .entry)) (now (reads .entry)) (now (writes .entry))) (outcome r (now (memory .entry)) (now (reads .exit)) (now (writes .entry))) ⌝ }
+    requires { ⌜ Ready memory reads writes ⌝ }
+    ensures { λ r. ⌜ Performs (gatherOf directWord 0 cpu) memory reads writes r ⌝ }
 {
     let found = modes::dw(cpu, memory, reads, writes);
     let low = memory::read(memory, reads, writes, found.low);
@@ -147,8 +146,8 @@ pub fn direct_word(cpu: Processor, memory: &[u8], reads: &mut [u8], writes: &[u8
 
 // The place of a word of the direct page.
 pub fn to_direct_word(cpu: Processor, memory: &[u8], reads: &mut [u8], writes: &[u8]) -> Operands
-    requires { ⌜ Sized (world (now memory) (now reads) (now writes)) ⌝ }
-    ensures { λ r. ⌜ Does (gatherOf toDirectWord 0 cpu) (world (now (memory .entry)) (now (reads .entry)) (now (writes .entry))) (outcome r (now (memory .entry)) (now (reads .exit)) (now (writes .entry))) ⌝ }
+    requires { ⌜ Ready memory reads writes ⌝ }
+    ensures { λ r. ⌜ Performs (gatherOf toDirectWord 0 cpu) memory reads writes r ⌝ }
 {
     let found = modes::dw(cpu, memory, reads, writes);
     let after = found.cpu;
@@ -171,8 +170,8 @@ fn bit_value(bit: u8) -> u8
 
 // A byte and one of its bits, by its value.
 pub fn memory_bit(cpu: Processor, memory: &[u8], reads: &mut [u8], writes: &[u8]) -> Operands
-    requires { ⌜ Sized (world (now memory) (now reads) (now writes)) ⌝ }
-    ensures { λ r. ⌜ Does (gatherOf memoryBit 0 cpu) (world (now (memory .entry)) (now (reads .entry)) (now (writes .entry))) (outcome r (now (memory .entry)) (now (reads .exit)) (now (writes .entry))) ⌝ }
+    requires { ⌜ Ready memory reads writes ⌝ }
+    ensures { λ r. ⌜ Performs (gatherOf memoryBit 0 cpu) memory reads writes r ⌝ }
 {
     let found = modes::bit_operand(cpu, memory, reads, writes);
     let low = memory::read(memory, reads, writes, found.at);

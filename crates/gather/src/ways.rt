@@ -1,7 +1,6 @@
 // Where to go: what jumps, calls and returns read.
-ghost use Rattle.memory.specs.World.{Sized, world};
-ghost use Rattle.memory.specs.Access.{Does, outcome};
 ghost use Prim.Native.Nat.{_-_, _*_, _/_};
+ghost use Rattle.memory.specs.Contracts.{Ready, Performs};
 ghost use Rattle.instructions.specs.Rows.Mode.{upperPage, word, wordAtX, pulledWord, pulledThree};
 ghost use Rattle.instructions.specs.Gather.{vector, gatherOf};
 use crate::places::aim;
@@ -10,8 +9,8 @@ use processor::Processor;
 
 // PCALL: an operand byte in the upper page.
 pub fn upper_page(cpu: Processor, memory: &[u8], reads: &mut [u8], writes: &[u8]) -> Operands
-    requires { ⌜ Sized (world (now memory) (now reads) (now writes)) ⌝ }
-    ensures { λ r. ⌜ Does (gatherOf upperPage 0 cpu) (world (now (memory .entry)) (now (reads .entry)) (now (writes .entry))) (outcome r (now (memory .entry)) (now (reads .exit)) (now (writes .entry))) ⌝ }
+    requires { ⌜ Ready memory reads writes ⌝ }
+    ensures { λ r. ⌜ Performs (gatherOf upperPage 0 cpu) memory reads writes r ⌝ }
 {
     let operand = modes::fetch_u8(cpu, memory, reads, writes);
     let after = operand.cpu;
@@ -32,8 +31,8 @@ pub fn vector_at(
     writes: &[u8],
     at: u16,
 ) -> Operands
-    requires { ⌜ Sized (world (now memory) (now reads) (now writes)) ⌝ }
-    ensures { λ r. ⌜ Does (vector at cpu) (world (now (memory .entry)) (now (reads .entry)) (now (writes .entry))) (outcome r (now (memory .entry)) (now (reads .exit)) (now (writes .entry))) ⌝ }
+    requires { ⌜ Ready memory reads writes ⌝ }
+    ensures { λ r. ⌜ Performs (vector at cpu) memory reads writes r ⌝ }
 {
     let target = memory::read_u16(memory, reads, writes, at);
     Operands {
@@ -53,40 +52,40 @@ pub fn table_vector(
     writes: &[u8],
     opcode: u8,
 ) -> Operands
-    requires { ⌜ Sized (world (now memory) (now reads) (now writes)) ⌝ }
-    ensures { λ r. ⌜ Does (vector (0xFFDE - opcode / 16 * 2) cpu) (world (now (memory .entry)) (now (reads .entry)) (now (writes .entry))) (outcome r (now (memory .entry)) (now (reads .exit)) (now (writes .entry))) ⌝ }
+    requires { ⌜ Ready memory reads writes ⌝ }
+    ensures { λ r. ⌜ Performs (vector (0xFFDE - opcode / 16 * 2) cpu) memory reads writes r ⌝ }
 {
     vector_at(cpu, memory, reads, writes, 0xFFDE - opcode as u16 / 16 * 2)
 }
 
 // CALL and JMP: an operand word.
 pub fn word(cpu: Processor, memory: &[u8], reads: &mut [u8], writes: &[u8]) -> Operands
-    requires { ⌜ Sized (world (now memory) (now reads) (now writes)) ⌝ }
-    ensures { λ r. ⌜ Does (gatherOf word 0 cpu) (world (now (memory .entry)) (now (reads .entry)) (now (writes .entry))) (outcome r (now (memory .entry)) (now (reads .exit)) (now (writes .entry))) ⌝ }
+    requires { ⌜ Ready memory reads writes ⌝ }
+    ensures { λ r. ⌜ Performs (gatherOf word 0 cpu) memory reads writes r ⌝ }
 {
     aim(modes::abs(cpu, memory, reads, writes))
 }
 
 // JMP [!a+X]: the word there.
 pub fn word_at_x(cpu: Processor, memory: &[u8], reads: &mut [u8], writes: &[u8]) -> Operands
-    requires { ⌜ Sized (world (now memory) (now reads) (now writes)) ⌝ }
-    ensures { λ r. ⌜ Does (gatherOf wordAtX 0 cpu) (world (now (memory .entry)) (now (reads .entry)) (now (writes .entry))) (outcome r (now (memory .entry)) (now (reads .exit)) (now (writes .entry))) ⌝ }
+    requires { ⌜ Ready memory reads writes ⌝ }
+    ensures { λ r. ⌜ Performs (gatherOf wordAtX 0 cpu) memory reads writes r ⌝ }
 {
     aim(modes::iax(cpu, memory, reads, writes))
 }
 
 // RET: a word from the stack.
 pub fn pulled_word(cpu: Processor, memory: &[u8], reads: &mut [u8], writes: &[u8]) -> Operands
-    requires { ⌜ Sized (world (now memory) (now reads) (now writes)) ⌝ }
-    ensures { λ r. ⌜ Does (gatherOf pulledWord 0 cpu) (world (now (memory .entry)) (now (reads .entry)) (now (writes .entry))) (outcome r (now (memory .entry)) (now (reads .exit)) (now (writes .entry))) ⌝ }
+    requires { ⌜ Ready memory reads writes ⌝ }
+    ensures { λ r. ⌜ Performs (gatherOf pulledWord 0 cpu) memory reads writes r ⌝ }
 {
     aim(modes::pull_from_stack_u16(cpu, memory, reads, writes))
 }
 
 // RETI: a byte from the stack, then a word.
 pub fn pulled_three(cpu: Processor, memory: &[u8], reads: &mut [u8], writes: &[u8]) -> Operands
-    requires { ⌜ Sized (world (now memory) (now reads) (now writes)) ⌝ }
-    ensures { λ r. ⌜ Does (gatherOf pulledThree 0 cpu) (world (now (memory .entry)) (now (reads .entry)) (now (writes .entry))) (outcome r (now (memory .entry)) (now (reads .exit)) (now (writes .entry))) ⌝ }
+    requires { ⌜ Ready memory reads writes ⌝ }
+    ensures { λ r. ⌜ Performs (gatherOf pulledThree 0 cpu) memory reads writes r ⌝ }
 {
     let first = modes::pull_from_stack_u8(cpu, memory, reads, writes);
     let next = first.cpu;

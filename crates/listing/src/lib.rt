@@ -79,7 +79,7 @@ fn on_line(line: Line, opcode: u8, operands: &[u8]) -> Line
 // Gives one instruction's text, from its bytes, into a lent buffer. Refusals: 4 fewer bytes than the instruction has, 3 a buffer
 // that is too short.
 pub fn instruction(code: &[u8], buffer: &mut [u8]) -> Written
-    ensures { λ r. ⌜ Gives (listedOf (now (code .entry))) (now (buffer .entry)) (now (buffer .exit)) r ⌝ }
+    ensures { λ r. ⌜ Gives (listedOf (now (code .entry))) buffer r ⌝ }
 {
     if code.len() == 0 {
         return Written {

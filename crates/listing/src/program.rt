@@ -1,9 +1,8 @@
 // The listing program's whole answer to an input.
 ghost use Prim.Native.Nat.{_<_, _≤_};
-ghost use mathlib.Core.List.{_++_};
 ghost use mathlib.Core.Path.{_≡_};
 ghost use lib.ListN.{length, drop};
-ghost use Rattle.text.specs.Given.{Gives, says};
+ghost use Rattle.text.specs.Given.{Gives, laidInto, says};
 ghost use Rattle.text.specs.Line.{blank, adds};
 ghost use Rattle.listing.specs.Session.{turnText, turnBytes, linesOf, refusedInput, sessionOf};
 use crate::length;
@@ -20,7 +19,8 @@ struct Turn {
 // The line of the instruction that starts at a place of the code, or `refused 4` for all that is left where it is cut.
 fn turn_at(code: &[u8], at: usize, address: u16) -> Turn
     requires { ⌜ at < length (now code) ⌝ }
-    ensures { λ r. ⌜ (r .line ≡ adds blank (turnText address (drop at (now (code .entry))))) × (r .bytes ≡ turnBytes (drop at (now (code .entry)))) ⌝ }
+    ensures { λ r. ⌜ r .line ≡ adds blank (turnText address (drop at (now (code .entry)))) ⌝ }
+    ensures { λ r. ⌜ r .bytes ≡ turnBytes (drop at (now (code .entry))) ⌝ }
 {
     let part = &code[at..];
     let opcode = part[0];
@@ -59,7 +59,7 @@ fn measure(code: &[u8], start: u16) -> usize
 fn write(code: &[u8], start: u16, out: &mut [u8])
     requires { ⌜ length (now code) ≤ 4096 ⌝ }
     requires { ⌜ length (linesOf 0 start (now code)) ≤ length (now out) ⌝ }
-    ensures { λ r. ⌜ now (out .exit) ≡ linesOf 0 start (now (code .entry)) ++ drop (length (linesOf 0 start (now (code .entry)))) (now (out .entry)) ⌝ }
+    ensures { λ r. ⌜ now (out .exit) ≡ laidInto (now (out .entry)) (linesOf 0 start (now (code .entry))) ⌝ }
 {
     let mut done = 0;
     let mut at = 0;
@@ -77,7 +77,7 @@ fn write(code: &[u8], start: u16, out: &mut [u8])
 // Gives what the listing program prints for an input into a lent buffer: the lines of its code, or `refused 6` where the input is
 // not a start address and 0 to 4,096 code bytes. Refusal 3 where the buffer is too short for that.
 pub fn session(input: &[u8], out: &mut [u8]) -> Written
-    ensures { λ r. ⌜ Gives (says (sessionOf (now (input .entry)))) (now (out .entry)) (now (out .exit)) r ⌝ }
+    ensures { λ r. ⌜ Gives (says (sessionOf (now (input .entry)))) out r ⌝ }
 {
     if input.len() < 2 {
         return refuse_input(out);
@@ -103,7 +103,7 @@ pub fn session(input: &[u8], out: &mut [u8]) -> Written
 
 // Gives the line that answers an input of a wrong length.
 fn refuse_input(out: &mut [u8]) -> Written
-    ensures { λ r. ⌜ Gives (says refusedInput) (now (out .entry)) (now (out .exit)) r ⌝ }
+    ensures { λ r. ⌜ Gives (says refusedInput) out r ⌝ }
 {
     Line::new().text(b"refused 6\n").give(out)
 }

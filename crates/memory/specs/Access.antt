@@ -1,8 +1,7 @@
 -- What a part of a step asks of the memory, in order, and what performing it gives.
 use Prim.Native.Nat.{ℕ}
 use mathlib.Core.Path.{_≡_}
-use mathlib.Core.List.{List}
-use Rattle.memory.specs.World.{World, world, byteAt, seen, kept}
+use Rattle.memory.specs.World.{World, byteAt, seen, kept}
 
 -- nothing more; a read, and what follows by the byte read; a store, and what follows
 pub data Access (R : Type 0) : Type 0 where
@@ -28,12 +27,12 @@ pub record Outcome (W R : Type 0) : Type 0 where
   pub result : R
   pub left : W
 
-abbrev pub outcome : {R : Type 0} → R → List ℕ → List ℕ → List ℕ → Outcome World R
-outcome x memory reads writes = record { result = x; left = world memory reads writes }
+abbrev pub outcome : {R : Type 0} → R → World → Outcome World R
+outcome x w = record { result = x; left = w }
 
 -- performing it on a world
 unfoldable pub perform : {R : Type 0} → Access R → World → Outcome World R
-perform (done x) w = record { result = x; left = w }
+perform (done x) w = outcome x w
 perform (readAt a p) w = perform (p (byteAt a w)) (seen a w)
 perform (storeAt a byte p) w = perform p (kept a byte w)
 

@@ -1,10 +1,9 @@
 -- The lent memory and the two maps, and what one access leaves in them.
 use Prim.Native.Nat.{ℕ}
 use mathlib.Core.Path.{_≡_}
-use mathlib.Core.Bool.{cond}
 use mathlib.Core.List.{List}
 use lib.ListN.{length, getD, set}
-use Rattle.marks.specs.Maps.{isMarked, marked}
+use Rattle.marks.specs.Maps.{marked, markedUnless}
 
 pub record World : Type 0 where
   pub memory : List ℕ
@@ -26,7 +25,7 @@ byteAt a w = getD (w .memory) a 0
 
 -- A read marks its address in the read map if at that moment the written map lacks it.
 abbrev pub seen : ℕ → World → World
-seen a w = world (w .memory) (cond (isMarked (w .writes) a) (w .reads) (marked (w .reads) a)) (w .writes)
+seen a w = world (w .memory) (markedUnless (w .reads) (w .writes) a) (w .writes)
 
 -- A store marks its address in the written map. No access clears a mark.
 abbrev pub kept : ℕ → ℕ → World → World

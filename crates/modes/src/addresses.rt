@@ -1,8 +1,7 @@
 // Address modes.
 ghost use Prim.Native.Nat.{_^_, _≤_};
 ghost use mathlib.Core.Path.{_≡_};
-ghost use Rattle.memory.specs.World.{Sized, world};
-ghost use Rattle.memory.specs.Access.{Does, outcome};
+ghost use Rattle.memory.specs.Contracts.{Ready, Performs};
 ghost use Rattle.modes.specs.Addresses.{directAt, onward};
 ghost use Rattle.modes.specs.Modes.{fetch, fetchWord, immediate, direct, directWord, indirect, pointed, pointerX, pointerY, absolute, absolutePointer, bitOperand, bitRead};
 ghost use Rattle.psw.specs.Status.{bitOf};
@@ -32,8 +31,8 @@ fn page(psw: ProgramStatusWord, byte: u8, index: u8) -> u16
 
 // The byte at PC, with PC behind it. Every opcode, operand and displacement byte is read here.
 pub fn fetch_u8(cpu: Processor, memory: &[u8], reads: &mut [u8], writes: &[u8]) -> Produced
-    requires { ⌜ Sized (world (now memory) (now reads) (now writes)) ⌝ }
-    ensures { λ r. ⌜ Does (fetch cpu) (world (now (memory .entry)) (now (reads .entry)) (now (writes .entry))) (outcome r (now (memory .entry)) (now (reads .exit)) (now (writes .entry))) ⌝ }
+    requires { ⌜ Ready memory reads writes ⌝ }
+    ensures { λ r. ⌜ Performs (fetch cpu) memory reads writes r ⌝ }
 {
     let byte = memory::read(memory, reads, writes, cpu.pc);
     Produced {
@@ -44,8 +43,8 @@ pub fn fetch_u8(cpu: Processor, memory: &[u8], reads: &mut [u8], writes: &[u8]) 
 
 // The word at PC, low byte first, with PC behind it.
 pub fn fetch_u16(cpu: Processor, memory: &[u8], reads: &mut [u8], writes: &[u8]) -> Addressed
-    requires { ⌜ Sized (world (now memory) (now reads) (now writes)) ⌝ }
-    ensures { λ r. ⌜ Does (fetchWord cpu) (world (now (memory .entry)) (now (reads .entry)) (now (writes .entry))) (outcome r (now (memory .entry)) (now (reads .exit)) (now (writes .entry))) ⌝ }
+    requires { ⌜ Ready memory reads writes ⌝ }
+    ensures { λ r. ⌜ Performs (fetchWord cpu) memory reads writes r ⌝ }
 {
     let low = fetch_u8(cpu, memory, reads, writes);
     let next = low.cpu;
@@ -67,8 +66,8 @@ pub fn imm(cpu: Processor) -> Addressed
 
 // d plus an index.
 pub fn d_off(cpu: Processor, memory: &[u8], reads: &mut [u8], writes: &[u8], index: u8) -> Addressed
-    requires { ⌜ Sized (world (now memory) (now reads) (now writes)) ⌝ }
-    ensures { λ r. ⌜ Does (direct index cpu) (world (now (memory .entry)) (now (reads .entry)) (now (writes .entry))) (outcome r (now (memory .entry)) (now (reads .exit)) (now (writes .entry))) ⌝ }
+    requires { ⌜ Ready memory reads writes ⌝ }
+    ensures { λ r. ⌜ Performs (direct index cpu) memory reads writes r ⌝ }
 {
     let operand = fetch_u8(cpu, memory, reads, writes);
     let next = operand.cpu;
@@ -81,32 +80,32 @@ pub fn d_off(cpu: Processor, memory: &[u8], reads: &mut [u8], writes: &[u8], ind
 
 // d
 pub fn d(cpu: Processor, memory: &[u8], reads: &mut [u8], writes: &[u8]) -> Addressed
-    requires { ⌜ Sized (world (now memory) (now reads) (now writes)) ⌝ }
-    ensures { λ r. ⌜ Does (direct 0 cpu) (world (now (memory .entry)) (now (reads .entry)) (now (writes .entry))) (outcome r (now (memory .entry)) (now (reads .exit)) (now (writes .entry))) ⌝ }
+    requires { ⌜ Ready memory reads writes ⌝ }
+    ensures { λ r. ⌜ Performs (direct 0 cpu) memory reads writes r ⌝ }
 {
     d_off(cpu, memory, reads, writes, 0)
 }
 
 // d+X
 pub fn dx(cpu: Processor, memory: &[u8], reads: &mut [u8], writes: &[u8]) -> Addressed
-    requires { ⌜ Sized (world (now memory) (now reads) (now writes)) ⌝ }
-    ensures { λ r. ⌜ Does (direct (cpu .x) cpu) (world (now (memory .entry)) (now (reads .entry)) (now (writes .entry))) (outcome r (now (memory .entry)) (now (reads .exit)) (now (writes .entry))) ⌝ }
+    requires { ⌜ Ready memory reads writes ⌝ }
+    ensures { λ r. ⌜ Performs (direct (cpu .x) cpu) memory reads writes r ⌝ }
 {
     d_off(cpu, memory, reads, writes, cpu.x)
 }
 
 // d+Y
 pub fn dy(cpu: Processor, memory: &[u8], reads: &mut [u8], writes: &[u8]) -> Addressed
-    requires { ⌜ Sized (world (now memory) (now reads) (now writes)) ⌝ }
-    ensures { λ r. ⌜ Does (direct (cpu .y) cpu) (world (now (memory .entry)) (now (reads .entry)) (now (writes .entry))) (outcome r (now (memory .entry)) (now (reads .exit)) (now (writes .entry))) ⌝ }
+    requires { ⌜ Ready memory reads writes ⌝ }
+    ensures { λ r. ⌜ Performs (direct (cpu .y) cpu) memory reads writes r ⌝ }
 {
     d_off(cpu, memory, reads, writes, cpu.y)
 }
 
 // d as a word: the addresses of its low and its high byte, both in the direct page.
 pub fn dw(cpu: Processor, memory: &[u8], reads: &mut [u8], writes: &[u8]) -> WordAddressed
-    requires { ⌜ Sized (world (now memory) (now reads) (now writes)) ⌝ }
-    ensures { λ r. ⌜ Does (directWord cpu) (world (now (memory .entry)) (now (reads .entry)) (now (writes .entry))) (outcome r (now (memory .entry)) (now (reads .exit)) (now (writes .entry))) ⌝ }
+    requires { ⌜ Ready memory reads writes ⌝ }
+    ensures { λ r. ⌜ Performs (directWord cpu) memory reads writes r ⌝ }
 {
     let operand = fetch_u8(cpu, memory, reads, writes);
     let next = operand.cpu;
@@ -142,8 +141,8 @@ pub fn iy(cpu: Processor) -> Addressed
 
 // The pointer word at an address, plus an index.
 fn pointer(d: Addressed, memory: &[u8], reads: &mut [u8], writes: &[u8], index: u8) -> Addressed
-    requires { ⌜ Sized (world (now memory) (now reads) (now writes)) ⌝ }
-    ensures { λ r. ⌜ Does (pointed index d) (world (now (memory .entry)) (now (reads .entry)) (now (writes .entry))) (outcome r (now (memory .entry)) (now (reads .exit)) (now (writes .entry))) ⌝ }
+    requires { ⌜ Ready memory reads writes ⌝ }
+    ensures { λ r. ⌜ Performs (pointed index d) memory reads writes r ⌝ }
 {
     let word = memory::read_u16(memory, reads, writes, d.at);
     let cpu = d.cpu;
@@ -155,8 +154,8 @@ fn pointer(d: Addressed, memory: &[u8], reads: &mut [u8], writes: &[u8], index: 
 
 // [d+X]
 pub fn idx(cpu: Processor, memory: &[u8], reads: &mut [u8], writes: &[u8]) -> Addressed
-    requires { ⌜ Sized (world (now memory) (now reads) (now writes)) ⌝ }
-    ensures { λ r. ⌜ Does (pointerX cpu) (world (now (memory .entry)) (now (reads .entry)) (now (writes .entry))) (outcome r (now (memory .entry)) (now (reads .exit)) (now (writes .entry))) ⌝ }
+    requires { ⌜ Ready memory reads writes ⌝ }
+    ensures { λ r. ⌜ Performs (pointerX cpu) memory reads writes r ⌝ }
 {
     let at = dx(cpu, memory, reads, writes);
     pointer(at, memory, reads, writes, 0)
@@ -164,8 +163,8 @@ pub fn idx(cpu: Processor, memory: &[u8], reads: &mut [u8], writes: &[u8]) -> Ad
 
 // [d]+Y
 pub fn idy(cpu: Processor, memory: &[u8], reads: &mut [u8], writes: &[u8]) -> Addressed
-    requires { ⌜ Sized (world (now memory) (now reads) (now writes)) ⌝ }
-    ensures { λ r. ⌜ Does (pointerY cpu) (world (now (memory .entry)) (now (reads .entry)) (now (writes .entry))) (outcome r (now (memory .entry)) (now (reads .exit)) (now (writes .entry))) ⌝ }
+    requires { ⌜ Ready memory reads writes ⌝ }
+    ensures { λ r. ⌜ Performs (pointerY cpu) memory reads writes r ⌝ }
 {
     let at = d(cpu, memory, reads, writes);
     pointer(at, memory, reads, writes, cpu.y)
@@ -179,8 +178,8 @@ pub fn abs_off(
     writes: &[u8],
     index: u8,
 ) -> Addressed
-    requires { ⌜ Sized (world (now memory) (now reads) (now writes)) ⌝ }
-    ensures { λ r. ⌜ Does (absolute index cpu) (world (now (memory .entry)) (now (reads .entry)) (now (writes .entry))) (outcome r (now (memory .entry)) (now (reads .exit)) (now (writes .entry))) ⌝ }
+    requires { ⌜ Ready memory reads writes ⌝ }
+    ensures { λ r. ⌜ Performs (absolute index cpu) memory reads writes r ⌝ }
 {
     let operand = fetch_u16(cpu, memory, reads, writes);
     let next = operand.cpu;
@@ -192,32 +191,32 @@ pub fn abs_off(
 
 // !a
 pub fn abs(cpu: Processor, memory: &[u8], reads: &mut [u8], writes: &[u8]) -> Addressed
-    requires { ⌜ Sized (world (now memory) (now reads) (now writes)) ⌝ }
-    ensures { λ r. ⌜ Does (absolute 0 cpu) (world (now (memory .entry)) (now (reads .entry)) (now (writes .entry))) (outcome r (now (memory .entry)) (now (reads .exit)) (now (writes .entry))) ⌝ }
+    requires { ⌜ Ready memory reads writes ⌝ }
+    ensures { λ r. ⌜ Performs (absolute 0 cpu) memory reads writes r ⌝ }
 {
     abs_off(cpu, memory, reads, writes, 0)
 }
 
 // !a+X
 pub fn absx(cpu: Processor, memory: &[u8], reads: &mut [u8], writes: &[u8]) -> Addressed
-    requires { ⌜ Sized (world (now memory) (now reads) (now writes)) ⌝ }
-    ensures { λ r. ⌜ Does (absolute (cpu .x) cpu) (world (now (memory .entry)) (now (reads .entry)) (now (writes .entry))) (outcome r (now (memory .entry)) (now (reads .exit)) (now (writes .entry))) ⌝ }
+    requires { ⌜ Ready memory reads writes ⌝ }
+    ensures { λ r. ⌜ Performs (absolute (cpu .x) cpu) memory reads writes r ⌝ }
 {
     abs_off(cpu, memory, reads, writes, cpu.x)
 }
 
 // !a+Y
 pub fn absy(cpu: Processor, memory: &[u8], reads: &mut [u8], writes: &[u8]) -> Addressed
-    requires { ⌜ Sized (world (now memory) (now reads) (now writes)) ⌝ }
-    ensures { λ r. ⌜ Does (absolute (cpu .y) cpu) (world (now (memory .entry)) (now (reads .entry)) (now (writes .entry))) (outcome r (now (memory .entry)) (now (reads .exit)) (now (writes .entry))) ⌝ }
+    requires { ⌜ Ready memory reads writes ⌝ }
+    ensures { λ r. ⌜ Performs (absolute (cpu .y) cpu) memory reads writes r ⌝ }
 {
     abs_off(cpu, memory, reads, writes, cpu.y)
 }
 
 // [!a+X]
 pub fn iax(cpu: Processor, memory: &[u8], reads: &mut [u8], writes: &[u8]) -> Addressed
-    requires { ⌜ Sized (world (now memory) (now reads) (now writes)) ⌝ }
-    ensures { λ r. ⌜ Does (absolutePointer cpu) (world (now (memory .entry)) (now (reads .entry)) (now (writes .entry))) (outcome r (now (memory .entry)) (now (reads .exit)) (now (writes .entry))) ⌝ }
+    requires { ⌜ Ready memory reads writes ⌝ }
+    ensures { λ r. ⌜ Performs (absolutePointer cpu) memory reads writes r ⌝ }
 {
     let at = absx(cpu, memory, reads, writes);
     pointer(at, memory, reads, writes, 0)
@@ -225,8 +224,8 @@ pub fn iax(cpu: Processor, memory: &[u8], reads: &mut [u8], writes: &[u8]) -> Ad
 
 // Mb: the address of a byte and the number of a bit.
 pub fn bit_operand(cpu: Processor, memory: &[u8], reads: &mut [u8], writes: &[u8]) -> BitAddressed
-    requires { ⌜ Sized (world (now memory) (now reads) (now writes)) ⌝ }
-    ensures { λ r. ⌜ Does (bitOperand cpu) (world (now (memory .entry)) (now (reads .entry)) (now (writes .entry))) (outcome r (now (memory .entry)) (now (reads .exit)) (now (writes .entry))) ⌝ }
+    requires { ⌜ Ready memory reads writes ⌝ }
+    ensures { λ r. ⌜ Performs (bitOperand cpu) memory reads writes r ⌝ }
 {
     let operand = fetch_u16(cpu, memory, reads, writes);
     let next = operand.cpu;
@@ -245,8 +244,8 @@ pub fn has_bit(byte: u8, bit: u8) -> bool
 
 // The bit that Mb names.
 pub fn mb(cpu: Processor, memory: &[u8], reads: &mut [u8], writes: &[u8]) -> BitRead
-    requires { ⌜ Sized (world (now memory) (now reads) (now writes)) ⌝ }
-    ensures { λ r. ⌜ Does (bitRead cpu) (world (now (memory .entry)) (now (reads .entry)) (now (writes .entry))) (outcome r (now (memory .entry)) (now (reads .exit)) (now (writes .entry))) ⌝ }
+    requires { ⌜ Ready memory reads writes ⌝ }
+    ensures { λ r. ⌜ Performs (bitRead cpu) memory reads writes r ⌝ }
 {
     let operand = bit_operand(cpu, memory, reads, writes);
     let next = operand.cpu;

@@ -1,6 +1,5 @@
 // Branches.
-ghost use Rattle.memory.specs.World.{Sized, world};
-ghost use Rattle.memory.specs.Access.{Does, outcome};
+ghost use Rattle.memory.specs.Contracts.{Ready, Performs};
 ghost use Rattle.modes.specs.Branches.{branched, branchedIf};
 use crate::addresses::fetch_u8;
 use crate::addresses::past;
@@ -8,8 +7,8 @@ use processor::Processor;
 
 // Reads the displacement at PC and goes where it leads.
 pub fn branch_imm(cpu: Processor, memory: &[u8], reads: &mut [u8], writes: &[u8]) -> Processor
-    requires { ⌜ Sized (world (now memory) (now reads) (now writes)) ⌝ }
-    ensures { λ r. ⌜ Does (branched cpu) (world (now (memory .entry)) (now (reads .entry)) (now (writes .entry))) (outcome r (now (memory .entry)) (now (reads .exit)) (now (writes .entry))) ⌝ }
+    requires { ⌜ Ready memory reads writes ⌝ }
+    ensures { λ r. ⌜ Performs (branched cpu) memory reads writes r ⌝ }
 {
     let operand = fetch_u8(cpu, memory, reads, writes);
     let mut next = operand.cpu;
@@ -25,8 +24,8 @@ pub fn read_and_branch_if(
     writes: &[u8],
     test: bool,
 ) -> Processor
-    requires { ⌜ Sized (world (now memory) (now reads) (now writes)) ⌝ }
-    ensures { λ r. ⌜ Does (branchedIf test cpu) (world (now (memory .entry)) (now (reads .entry)) (now (writes .entry))) (outcome r (now (memory .entry)) (now (reads .exit)) (now (writes .entry))) ⌝ }
+    requires { ⌜ Ready memory reads writes ⌝ }
+    ensures { λ r. ⌜ Performs (branchedIf test cpu) memory reads writes r ⌝ }
 {
     if test {
         return branch_imm(cpu, memory, reads, writes);

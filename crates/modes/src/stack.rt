@@ -1,6 +1,5 @@
 // The stack, at 0x100 + SP.
-ghost use Rattle.memory.specs.World.{Sized, world};
-ghost use Rattle.memory.specs.Access.{Does, outcome};
+ghost use Rattle.memory.specs.Contracts.{Ready, Performs};
 ghost use Rattle.modes.specs.Stack.{push, pushWord, pull, pullWord, called};
 use crate::Addressed;
 use processor::Processor;
@@ -14,8 +13,8 @@ pub fn push_to_stack_u8(
     writes: &mut [u8],
     byte: u8,
 ) -> Processor
-    requires { ⌜ Sized (world (now memory) (now reads) (now writes)) ⌝ }
-    ensures { λ r. ⌜ Does (push byte cpu) (world (now (memory .entry)) (now (reads .entry)) (now (writes .entry))) (outcome r (now (memory .exit)) (now (reads .entry)) (now (writes .exit))) ⌝ }
+    requires { ⌜ Ready memory reads writes ⌝ }
+    ensures { λ r. ⌜ Performs (push byte cpu) memory reads writes r ⌝ }
 {
     memory::store(memory, reads, writes, 0x100 + cpu.sp as u16, byte);
     let mut next = cpu;
@@ -31,8 +30,8 @@ pub fn push_to_stack_u16(
     writes: &mut [u8],
     word: u16,
 ) -> Processor
-    requires { ⌜ Sized (world (now memory) (now reads) (now writes)) ⌝ }
-    ensures { λ r. ⌜ Does (pushWord word cpu) (world (now (memory .entry)) (now (reads .entry)) (now (writes .entry))) (outcome r (now (memory .exit)) (now (reads .entry)) (now (writes .exit))) ⌝ }
+    requires { ⌜ Ready memory reads writes ⌝ }
+    ensures { λ r. ⌜ Performs (pushWord word cpu) memory reads writes r ⌝ }
 {
     let next = push_to_stack_u8(cpu, memory, reads, writes, (word / 256) as u8);
     push_to_stack_u8(next, memory, reads, writes, (word % 256) as u8)
@@ -45,8 +44,8 @@ pub fn pull_from_stack_u8(
     reads: &mut [u8],
     writes: &[u8],
 ) -> Produced
-    requires { ⌜ Sized (world (now memory) (now reads) (now writes)) ⌝ }
-    ensures { λ r. ⌜ Does (pull cpu) (world (now (memory .entry)) (now (reads .entry)) (now (writes .entry))) (outcome r (now (memory .entry)) (now (reads .exit)) (now (writes .entry))) ⌝ }
+    requires { ⌜ Ready memory reads writes ⌝ }
+    ensures { λ r. ⌜ Performs (pull cpu) memory reads writes r ⌝ }
 {
     let mut next = cpu;
     next.sp = std::num::wrapping_add_u8(cpu.sp, 1);
@@ -61,8 +60,8 @@ pub fn pull_from_stack_u16(
     reads: &mut [u8],
     writes: &[u8],
 ) -> Addressed
-    requires { ⌜ Sized (world (now memory) (now reads) (now writes)) ⌝ }
-    ensures { λ r. ⌜ Does (pullWord cpu) (world (now (memory .entry)) (now (reads .entry)) (now (writes .entry))) (outcome r (now (memory .entry)) (now (reads .exit)) (now (writes .entry))) ⌝ }
+    requires { ⌜ Ready memory reads writes ⌝ }
+    ensures { λ r. ⌜ Performs (pullWord cpu) memory reads writes r ⌝ }
 {
     let low = pull_from_stack_u8(cpu, memory, reads, writes);
     let next = low.cpu;
@@ -80,8 +79,8 @@ pub fn call(
     writes: &mut [u8],
     target: u16,
 ) -> Processor
-    requires { ⌜ Sized (world (now memory) (now reads) (now writes)) ⌝ }
-    ensures { λ r. ⌜ Does (called target cpu) (world (now (memory .entry)) (now (reads .entry)) (now (writes .entry))) (outcome r (now (memory .exit)) (now (reads .entry)) (now (writes .exit))) ⌝ }
+    requires { ⌜ Ready memory reads writes ⌝ }
+    ensures { λ r. ⌜ Performs (called target cpu) memory reads writes r ⌝ }
 {
     let mut next = push_to_stack_u16(cpu, memory, reads, writes, cpu.pc);
     next.pc = target;

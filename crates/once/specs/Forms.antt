@@ -7,7 +7,7 @@ use Rattle.memory.specs.World.{World, world}
 use Rattle.memory.specs.Access.{Access, Outcome, outcome, Does}
 use Rattle.memory.proofs.Laws.{does-once}
 use Rattle.text.specs.declared.Written.{Written}
-use Rattle.text.specs.Given.{Wanted, Gives}
+use Rattle.text.specs.Given.{Wanted, Given}
 use Rattle.text.proofs.Laws.{given-once}
 use Rattle.exports.specs.Calls.{Called, called}
 use Rattle.once.specs.Law.{nothing}
@@ -28,23 +28,23 @@ pub leaves : {x y : None} {s t z : List ℕ} → s ≡ z → t ≡ z → (x ≡ 
 leaves p q = (refl, p ∙ sym q)
 
 -- a text given into a buffer
-pub gives : {w : Wanted} {before s t : List ℕ} {x y : Written} → Gives w before s x → Gives w before t y → (x ≡ y) × (s ≡ t)
+pub gives : {w : Wanted} {before s t : List ℕ} {x y : Written} → Given w before s x → Given w before t y → (x ≡ y) × (s ≡ t)
 gives p q = let same = given-once p q in (same .1, same .0)
 
 -- Accesses to the memory m with the read map s and the written map u; in the other outcome they are n, t and v.
 module _ {R : Type 0} {x y : R} {m n s t u v : List ℕ} where
   -- reads: of the three, the read map is written to
-  pub reads : {p : Access R} {w : World} → Does p w (outcome x m s u) → Does p w (outcome y n t v) → (x ≡ y) × (s ≡ t)
+  pub reads : {p : Access R} {w : World} → Does p w (outcome x (world m s u)) → Does p w (outcome y (world n t v)) → (x ≡ y) × (s ≡ t)
   reads p q = let same = does-once p q in (ap (λ o. o .result) same, ap (λ o. o .left .reads) same)
 
   -- stores: the memory and the written map are
   pub stores : {p : Access R} {w : World}
-      → Does p w (outcome x m s u) → Does p w (outcome y n t v) → (x ≡ y) × ((m ∷ u ∷ []) ≡ (n ∷ v ∷ []))
+      → Does p w (outcome x (world m s u)) → Does p w (outcome y (world n t v)) → (x ≡ y) × ((m ∷ u ∷ []) ≡ (n ∷ v ∷ []))
   stores p q = let same = does-once p q in (ap (λ o. o .result) same, ap (λ o. o .left .memory ∷ o .left .writes ∷ []) same)
 
   -- steps and runs: all three are
   pub runs : {o : Outcome World R}
-      → outcome x m s u ≡ o → outcome y n t v ≡ o → (x ≡ y) × ((m ∷ s ∷ u ∷ []) ≡ (n ∷ t ∷ v ∷ []))
+      → outcome x (world m s u) ≡ o → outcome y (world n t v) ≡ o → (x ≡ y) × ((m ∷ s ∷ u ∷ []) ≡ (n ∷ t ∷ v ∷ []))
   runs p q =
       let same = p ∙ sym q in
       (ap (λ o. o .result) same, ap (λ o. o .left .memory ∷ o .left .reads ∷ o .left .writes ∷ []) same)

@@ -3,7 +3,8 @@
 use Prim.Native.Nat.{ℕ}
 use mathlib.Core.Path.{_≡_}
 use mathlib.Core.List.{List, []}
-use denote.Ref.{RefT, now}
+use denote.Ref.{now}
+use Rattle.laws.specs.Lent.{Slice}
 
 abbrev pub nothing : List ℕ
 nothing = []
@@ -22,26 +23,23 @@ module _ {K : Type 0} {A R E : K → Type 0} where
 
 -- ---- the content at exit of a parameter by its place, which is bytes that are lent
 
-abbrev Lent : Type 0
-Lent = RefT (List ℕ)
-
-abbrev pub first : {A : Type 0} → Lent × A → List ℕ
+abbrev pub first : {A : Type 0} → Slice × A → List ℕ
 first e = now (e .0)
 
-abbrev pub second : {A B : Type 0} → A × (Lent × B) → List ℕ
+abbrev pub second : {A B : Type 0} → A × (Slice × B) → List ℕ
 second e = now (e .1 .0)
 
-abbrev pub third : {A B C : Type 0} → A × (B × (Lent × C)) → List ℕ
+abbrev pub third : {A B C : Type 0} → A × (B × (Slice × C)) → List ℕ
 third e = now (e .1 .1 .0)
 
-abbrev pub fourth : {A B C D : Type 0} → A × (B × (C × (Lent × D))) → List ℕ
+abbrev pub fourth : {A B C D : Type 0} → A × (B × (C × (Slice × D))) → List ℕ
 fourth e = now (e .1 .1 .1 .0)
 
-abbrev pub fifth : {A B C D E : Type 0} → A × (B × (C × (D × (Lent × E)))) → List ℕ
+abbrev pub fifth : {A B C D E : Type 0} → A × (B × (C × (D × (Slice × E)))) → List ℕ
 fifth e = now (e .1 .1 .1 .1 .0)
 
 -- ---- a function that answers a part of a slice
 
 -- Two outcomes that meet the contract for the same arguments show the same bytes.
-pub record Shows {K : Type 0} {A E : K → Type 0} (post : (κ : K) → A κ → Lent → E κ → Type 0) : Type 0 where
-  pub same : {κ : K} {a : A κ} {x y : Lent} {e f : E κ} → post κ a x e → post κ a y f → now x ≡ now y
+pub record Shows {K : Type 0} {A E : K → Type 0} (post : (κ : K) → A κ → Slice → E κ → Type 0) : Type 0 where
+  pub same : {κ : K} {a : A κ} {x y : Slice} {e f : E κ} → post κ a x e → post κ a y f → now x ≡ now y

@@ -136,7 +136,7 @@ fn word(low: u8, high: u8) -> u16
 // Gives the text of a list of modes with their operand bytes into a lent buffer. Refusals: 5 a count above 3, 4 too few operand
 // bytes, 3 a buffer that is too short.
 pub fn format_address_modes(modes: Modes, values: &[u8], buffer: &mut [u8]) -> Written
-    ensures { λ r. ⌜ Gives (formatOf modes (now (values .entry))) (now (buffer .entry)) (now (buffer .exit)) r ⌝ }
+    ensures { λ r. ⌜ Gives (formatOf modes (now (values .entry))) buffer r ⌝ }
 {
     if modes.count > 3 {
         return Written {

@@ -1,5 +1,5 @@
 // What a case asks: a step, or one of the functions on memory.
-ghost use Rattle.memory.specs.World.{Sized, world};
+ghost use Rattle.memory.specs.Contracts.{Ready};
 use crate::case::at;
 use crate::case::registers;
 use modes::Addressed;
@@ -79,7 +79,7 @@ fn kind(
     writes: &mut [u8],
     given: &[u8],
 ) -> Answer
-    requires { ⌜ Sized (world (now memory) (now reads) (now writes)) ⌝ }
+    requires { ⌜ Ready memory reads writes ⌝ }
 {
     let number = at(given, 7);
     match number {
@@ -111,7 +111,7 @@ fn mode(
     number: u8,
     index: u8,
 ) -> Addressed
-    requires { ⌜ Sized (world (now memory) (now reads) (now writes)) ⌝ }
+    requires { ⌜ Ready memory reads writes ⌝ }
 {
     match number {
         1 => modes::imm(cpu),
@@ -139,7 +139,7 @@ fn reader(
     number: u8,
     given: &[u8],
 ) -> Answer
-    requires { ⌜ Sized (world (now memory) (now reads) (now writes)) ⌝ }
+    requires { ⌜ Ready memory reads writes ⌝ }
 {
     let low = at(given, 8);
     let argument = word(low, at(given, 9));
@@ -166,7 +166,7 @@ fn writer(
     number: u8,
     given: &[u8],
 ) -> Answer
-    requires { ⌜ Sized (world (now memory) (now reads) (now writes)) ⌝ }
+    requires { ⌜ Ready memory reads writes ⌝ }
 {
     let low = at(given, 8);
     let argument = word(low, at(given, 9));
@@ -190,7 +190,7 @@ fn write_u16(
     target: u16,
     low: u8,
 ) -> Answer
-    requires { ⌜ Sized (world (now memory) (now reads) (now writes)) ⌝ }
+    requires { ⌜ Ready memory reads writes ⌝ }
 {
     memory::write_u16(memory, reads, writes, target, word(low, cpu.a));
     found(cpu, 0)

@@ -23,7 +23,7 @@ use Rattle.state.specs.Registers.{registersOf}
 use Rattle.engine.specs.declared.Ran.{Ran}
 use Rattle.runner.specs.Bounds.{small}
 use Rattle.runner.specs.Session.{Session, budgetOf, runOn, openingOf, closingOf, sessionOf, reported}
-use Rattle.runner.specs.Told.{Tells}
+use Rattle.runner.specs.Told.{Told}
 use Rattle.runner.specs.declared.Report.{Report}
 
 pub record Fits (s : Session) : Type 0 where
@@ -65,6 +65,6 @@ module _ (input : List ℕ) (bytes : Bytes input) where
       go false e = record { opening = omega arith; closing = omega arith }
 
   -- So the lines of a report show all of it.
-  pub shows-all : {r : Report} {after : List ℕ} → Tells (sessionOf input) r after
+  pub shows-all : {r : Report} {after : List ℕ} → Told (sessionOf input) r after
       → (shown (r .opening) ≡ sessionOf input .opening) × (shown (r .closing) ≡ sessionOf input .closing)
   shows-all t = (rw (t .opening) (shown-adds _ (fits .opening)), rw (t .closing) (shown-adds _ (fits .closing)))

@@ -34,7 +34,7 @@ fn budget(input: &[u8]) -> u32
 
 // Runs from clear maps, and reports.
 fn run_on(cpu: Processor, memory: &mut [u8], budget: u32) -> Report
-    ensures { λ r. ⌜ Tells (reported [] (played budget cpu (now (memory .entry)))) r (now (memory .exit)) ⌝ }
+    ensures { λ r. ⌜ Tells (λ image. reported [] (played budget cpu image)) memory r ⌝ }
 {
     let mut reads = [0u8; 8192];
     let mut writes = [0u8; 8192];
@@ -51,7 +51,7 @@ fn run_on(cpu: Processor, memory: &mut [u8], budget: u32) -> Report
 // Runs an input of the right length.
 fn accepted(input: &mut [u8]) -> Report
     requires { ⌜ length (now input) ≡ 65547 ⌝ }
-    ensures { λ r. ⌜ Tells (reported (take 11 (now (input .entry))) (runOn (now (input .entry)))) r (now (input .exit)) ⌝ }
+    ensures { λ r. ⌜ Tells (λ bytes. reported (take 11 bytes) (runOn bytes)) input r ⌝ }
 {
     let budget = budget(input);
     let cpu = state::registers(&input[4..11]);
@@ -60,7 +60,7 @@ fn accepted(input: &mut [u8]) -> Report
 
 // Runs the input, in whose bytes the memory stands, from clear maps, and reports. An input of a wrong length gives `refused 6`.
 pub fn session(input: &mut [u8]) -> Report
-    ensures { λ r. ⌜ Tells (sessionOf (now (input .entry))) r (now (input .exit)) ⌝ }
+    ensures { λ r. ⌜ Tells sessionOf input r ⌝ }
 {
     if input.len() != 65547 {
         return Report {

@@ -1,6 +1,6 @@
 // The register record as seven bytes: A X Y SP PC-low PC-high PSW.
 ghost use mathlib.Core.Path.{_≡_};
-ghost use lib.ListN.{length, set};
+ghost use lib.ListN.{length};
 ghost use Rattle.state.specs.Registers.{registersOf, bytesOf};
 use processor::Processor;
 use psw::ProgramStatusWord;
@@ -20,25 +20,17 @@ pub fn registers(bytes: &[u8]) -> Processor
     }
 }
 
-// Stores A X Y SP in the first four bytes of seven.
-fn set_bytes(bytes: &mut [u8], cpu: Processor)
-    requires { ⌜ length (now bytes) ≡ 7 ⌝ }
-    ensures { λ r. ⌜ now (bytes .exit) ≡ set (set (set (set (now (bytes .entry)) 0 (cpu .a)) 1 (cpu .x)) 2 (cpu .y)) 3 (cpu .sp) ⌝ }
-{
-    bytes[0] = cpu.a;
-    bytes[1] = cpu.x;
-    bytes[2] = cpu.y;
-    bytes[3] = cpu.sp;
-}
-
 // Stores the record in seven bytes.
 pub fn set_registers(bytes: &mut [u8], cpu: Processor)
     requires { ⌜ length (now bytes) ≡ 7 ⌝ }
     ensures { λ r. ⌜ now (bytes .exit) ≡ bytesOf cpu ⌝ }
 {
     let psw = cpu.psw;
+    bytes[0] = cpu.a;
+    bytes[1] = cpu.x;
+    bytes[2] = cpu.y;
+    bytes[3] = cpu.sp;
     bytes[4] = (cpu.pc % 256) as u8;
     bytes[5] = (cpu.pc / 256) as u8;
     bytes[6] = psw.to_byte();
-    set_bytes(bytes, cpu);
 }

@@ -1,15 +1,12 @@
--- Past the test of the lengths it is the counted step.
+-- A step is a run of budget 1, which is a theorem.
 -- Assumes nothing.
-use Rattle.engine.proofs.Laws.{sized, refuses, accepts}
 use borrow.Author.Needs.{needs}
+use Rattle.engine.specs.Theorems.{step-is-run-of-one}
 use Rattle.engine.proofs.step.Statement.{statement}
 use Rattle.engine.proofs.step.Tie as tie
 
-refusal-of-requires : tie.Need-refusal-of-requires
-refusal-of-requires c κs = search needs
-
-refused-requires : tie.Need-refused-requires
-refused-requires c κs = search needs
+run-requires : tie.Need-run-requires
+run-requires c κs = search needs
 
 same-length : tie.Need-same-length
 same-length c = search needs
@@ -21,38 +18,7 @@ same-length-3 : tie.Need-same-length-3
 same-length-3 c = search needs
 
 returns : tie.Need-returns
-returns c = refuses _ _ _ (c .before .before .refusal-of .ensures) (c .before .if1 .taken) (c .refused .ensures)
-
-take-step-requires : tie.Need-take-step-requires
-take-step-requires c κs = sized _ (c .before .before .before .before .refusal-of .ensures) (c .before .before .before .if1 .left)
-
-same-length-4 : tie.Need-same-length-4
-same-length-4 c = search needs
-
-same-length-5 : tie.Need-same-length-5
-same-length-5 c = search needs
-
-same-length-6 : tie.Need-same-length-6
-same-length-6 c = search needs
-
-returns-2 : tie.Need-returns-2
-returns-2 c =
-    accepts _ _ _ (c .before .before .before .before .before .before .before .before .before .before .before .refusal-of .ensures)
-    (c .before .before .before .before .before .before .before .before .before .before .if1 .left)
-    (c .before .before .before .before .before .before .take-step .ensures)
+returns c = search (needs, step-is-run-of-one)
 
 pub step-spec : {M : Type 1} → statement M
-step-spec =
-    tie.close
-    (tie.spec
-    refusal-of-requires
-    refused-requires
-    same-length
-    same-length-2
-    same-length-3
-    returns
-    take-step-requires
-    same-length-4
-    same-length-5
-    same-length-6
-    returns-2)
+step-spec = tie.close (tie.spec run-requires same-length same-length-2 same-length-3 returns)

@@ -19,7 +19,7 @@ use Rattle.engine.proofs.take_steps.Tie as tie
 abbrev Inv-loop : tie.InvT-loop
 Inv-loop memory₀ reads₀ writes₀ budget next₀ steps₀ stop₀ memory reads writes next steps stop =
     (Sized (world memory reads writes)) × (steps ≤ budget)
-    × (runOf steps next₀ (world memory₀ reads₀ writes₀) ≡ outcome (progress next steps stop) memory reads writes)
+    × (runOf steps next₀ (world memory₀ reads₀ writes₀) ≡ outcome (progress next steps stop) (world memory reads writes))
 
 abbrev μ-loop : tie.MeasureT-loop
 μ-loop memory₀ reads₀ writes₀ budget next₀ steps₀ stop₀ memory reads writes next steps stop = budget - steps

@@ -10,12 +10,12 @@ use lib.ListN.{length}
 use lib.Seq.{length-take-le}
 use borrow.Author.Needs.{needs}
 use borrow.Author.Tests.{leb-true}
-use Rattle.text.specs.Given.{Wanted, says, refuses, accepted, refused, Gives}
+use Rattle.text.specs.Given.{Wanted, says, refuses, accepted, refused, Given}
 use Rattle.text.specs.declared.Written.{Written}
 use Rattle.list.proofs.main.Statement.{statement}
 use Rattle.list.proofs.main.Tie as tie
 
-given-within : (w : Wanted) {before after : List ℕ} {r : Written} → Gives w before after r → r .length ≤ length before
+given-within : (w : Wanted) {before after : List ℕ} {r : Written} → Given w before after r → r .length ≤ length before
 given-within (refuses n) g = rw (g .answer) (omega arith)
 given-within (says t) {before} g = rw (g .answer) (go (leb (length t) (length before)) refl)
   where

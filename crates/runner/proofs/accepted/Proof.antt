@@ -14,7 +14,7 @@ use Rattle.processor.specs.declared.Processor.{Processor}
 use Rattle.state.specs.Registers.{registersOf}
 use Rattle.engine.specs.Provenance.{played}
 use Rattle.runner.specs.Session.{budgetOf, runOn, reported}
-use Rattle.runner.specs.Told.{Tells}
+use Rattle.runner.specs.Told.{Told}
 use Rattle.runner.specs.declared.Report.{Report}
 use Rattle.runner.proofs.accepted.Statement.{statement}
 use Rattle.runner.proofs.accepted.Tie as tie
@@ -26,8 +26,8 @@ put-back input memory h = rw (post-is 11 (length input) input h, drop-length inp
 -- A run on the input's parts is the run on the input.
 placed : (input : List ℕ) {budget : ℕ} {cpu : Processor} {part memory : List ℕ} {r : Report} → length input ≡ 65547
     → budget ≡ budgetOf input → cpu ≡ registersOf (take 7 (drop 4 input)) → part ≡ drop 11 input
-    → Tells (reported [] (played budget cpu part)) r memory
-    → Tells (reported (take 11 input) (runOn input)) r (putMid 11 (length input - 11) input memory)
+    → Told (reported [] (played budget cpu part)) r memory
+    → Told (reported (take 11 input) (runOn input)) r (putMid 11 (length input - 11) input memory)
 placed input {memory = memory} size b c p t =
     let s = rw (b, c, p) at t in
     record { opening = s .opening; closing = s .closing; left = rw (put-back input memory (omega arith), s .left) }

@@ -10,20 +10,20 @@ use Rattle.text.specs.Line.{blank, adds}
 use Rattle.text.specs.declared.Line.{Line}
 use Rattle.marks.specs.Maps.{countOf}
 use Rattle.marks.specs.declared.Counted.{Counted}
-use Rattle.memory.specs.World.{World}
+use Rattle.memory.specs.World.{World, world}
 use Rattle.memory.specs.Access.{Outcome, outcome}
 use Rattle.engine.specs.Provenance.{played}
 use Rattle.engine.specs.declared.Ran.{Ran}
 use Rattle.runner.specs.Session.{openingOf, closingOf, reported, closingText}
-use Rattle.runner.specs.Told.{Tells}
+use Rattle.runner.specs.Told.{Told}
 use Rattle.runner.proofs.run_on.Statement.{statement}
 use Rattle.runner.proofs.run_on.Tie as tie
 
 -- A run that left two maps of 8,192 bytes, their counts, and the two lines that were made of it.
 told : {o : Outcome World Ran} {ran : Ran} {memory reads writes : List ℕ} {read written : Counted} {opening closing : Line}
-    → outcome ran memory reads writes ≡ o → length reads ≡ 8192 → length writes ≡ 8192 → read ≡ countOf reads → written ≡ countOf writes
+    → outcome ran (world memory reads writes) ≡ o → length reads ≡ 8192 → length writes ≡ 8192 → read ≡ countOf reads → written ≡ countOf writes
     → opening ≡ adds blank (openingOf ran) → closing ≡ adds blank (closingText (ran .cpu .psw) (read .count) (written .count))
-    → Tells (reported [] o) (record { opening = opening; closing = closing }) memory
+    → Told (reported [] o) (record { opening = opening; closing = closing }) memory
 unfolding closingOf
 told e r w read written opening closing =
     rw (← e)

@@ -10,19 +10,19 @@ use Rattle.text.specs.Line.{blank, adds}
 use Rattle.text.specs.Quoted.{text}
 use Rattle.text.specs.declared.Line.{Line}
 use Rattle.runner.specs.Session.{runOn, sessionOf, reported}
-use Rattle.runner.specs.Told.{Tells}
+use Rattle.runner.specs.Told.{Told}
 use Rattle.runner.specs.declared.Report.{Report}
 use Rattle.runner.proofs.session.Statement.{statement}
 use Rattle.runner.proofs.session.Tie as tie
 
 refuses : (input : List ℕ) {first opening closing : Line} → (length input ≡ 65547 → ⊥)
     → first ≡ blank → opening ≡ adds first (text "refused 6\n") → closing ≡ blank
-    → Tells (sessionOf input) (record { opening = opening; closing = closing }) input
+    → Told (sessionOf input) (record { opening = opening; closing = closing }) input
 unfolding sessionOf adds
 refuses input n f o c = rw (ne-eqb _ _ n) (record { opening = rw (o, f); closing = c; left = refl })
 
 accepts : (input : List ℕ) {after : List ℕ} {r : Report} → length input ≡ 65547
-    → Tells (reported (take 11 input) (runOn input)) r after → Tells (sessionOf input) r after
+    → Told (reported (take 11 input) (runOn input)) r after → Told (sessionOf input) r after
 unfolding sessionOf
 accepts input e t = rw (eq-eqb _ _ e) t
 

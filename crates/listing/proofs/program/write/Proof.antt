@@ -11,7 +11,7 @@ use borrow.Author.Tests.{le-leb}
 use borrow.Rule.Slice.PartAt.{part-to-end}
 use borrow.Rule.Slice.PartMut.{putMid, post-is}
 use Rattle.laws.specs.Bytes.{Bytes, bytes-drop}
-use Rattle.text.specs.Given.{Gives, says}
+use Rattle.text.specs.Given.{Given, says}
 use Rattle.text.specs.declared.Written.{Written}
 use Rattle.text.proofs.Laws.{length-adds, gives-added}
 use Rattle.listing.specs.Lengths.{turn-fits}
@@ -38,7 +38,7 @@ module _ (text buffer : List ℕ) (done : ℕ) (h : done ≤ length text) (g : d
   -- a line more of the text, given into the rest of the buffer
   stored : (line : List ℕ) {part : List ℕ} {r : Written}
       → done + length line ≤ length buffer → take (done + length line) text ≡ take done text ++ line
-      → Gives (says line) (take (length front - done) (drop done front)) part r
+      → Given (says line) (take (length front - done) (drop done front)) part r
       → putMid done (length front - done) front part ≡ take (done + length line) text ++ drop (done + length line) buffer
   stored line {part} fits more gives =
       let rest = part-to-end front done ∙ drop-at (take done text) (drop done buffer) done (length-take-le done text h) in
