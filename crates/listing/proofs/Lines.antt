@@ -5,8 +5,10 @@ use mathlib.Core.Path.{_≡_, refl, ap}
 use mathlib.Core.List.{List, [], _∷_, _++_}
 use native.Mathlib.Nat.{mod-lt}
 use native.Mathlib.Omega.{arith}
-use lib.ListN.{length, take, drop, length-append, length-drop, drop-of-length-le}
+use lib.ListN.{length, getD, take, drop, length-append, length-drop, drop-of-length-le}
 use lib.Seq.{take-add, drop-drop, take-append-seam, drop-append-seam}
+use mir.Syntax.{w8, w16, w64}
+use mir.Val.{Fits}
 use Rattle.laws.specs.Bytes.{Bytes, bytes-drop}
 use Rattle.text.specs.Line.{blank, adds}
 use Rattle.text.specs.declared.Line.{Line}
@@ -49,12 +51,6 @@ pub record Upto (start : ℕ) (code : List ℕ) (done at address : ℕ) : Type 0
   pub within : done ≤ length (linesOf 0 start code)
   pub rest : drop done (linesOf 0 start code) ≡ linesOf 0 address (drop at code)
 
--- The same with one line more, which stands for some bytes. How long the listing can be by now bounds what the code counts.
-pub record Next (start : ℕ) (code : List ℕ) (done at address bytes : ℕ) : Type 0 where
-  pub upto : Upto start code done at address
-  pub some : 0 < bytes
-  pub small : done ≤ 18 * length code
-
 pub nothing-yet : (start : ℕ) (code : List ℕ) → start < 65536 → Upto start code 0 0 start
 nothing-yet start code h = record { place = omega arith; word = h; within = omega arith; rest = refl }
 
@@ -95,15 +91,41 @@ module _ {start : ℕ} {code : List ℕ} {done at address : ℕ} (u : Upto start
         }
 
     -- the next line as the code has it, and how many bytes of the code it stands for
-    pub next : {l : Line} {n : ℕ} → Bytes code → l ≡ adds blank line → n ≡ bytes
-        → Next start code (done + l .length) (at + n) ((address + n) % 65536) n
-    next small p q =
-        rw (p, q, length-adds line (turn-fits address (drop at code) (bytes-drop at code small)))
-        (record {
-          upto = one-more;
-          some = turn-within (drop at code) code-left .0;
-          small = omega (arith, one-more .within, length-lines 0 start code small (omega arith));
-        })
+    next : {l : Line} {n : ℕ} → Bytes code → l ≡ adds blank line → n ≡ bytes
+        → Upto start code (done + l .length) (at + n) ((address + n) % 65536)
+    next small p q = rw (p, q, length-adds line (turn-fits address (drop at code) (bytes-drop at code small))) one-more
+
+    pub ends : done + length line ≤ length (linesOf 0 start code)
+    ends = one-more .within
 
     pub text-so-far : take (done + length line) (linesOf 0 start code) ≡ take done (linesOf 0 start code) ++ line
     text-so-far = rw (take-add, split, take-append-seam)
+
+-- ---- a turn of the code: the bytes that a line stands for, and the line
+
+module _ (code : List ℕ) (at n : ℕ) (q : n ≡ turnBytes (drop at code)) (h : at < length code) where
+  within-code : (0 < n) × (at + n ≤ length code)
+  within-code =
+      let some : 0 < length (drop at code) = rw length-drop (omega arith) in
+      let bounds = rw length-drop at (turn-within (drop at code) some) in (omega arith, omega arith)
+
+  pub fewer-left : length code - (at + n) < length code - at
+  fewer-left = omega (arith, within-code)
+
+  pub bytes-fit : length code ≤ 4096 → Fits w16 n
+  bytes-fit small = omega (arith, within-code)
+
+  pub place-fits : length code ≤ 4096 → Fits w64 (at + n)
+  place-fits small = omega (arith, within-code)
+
+  module _ (start done address : ℕ) (u : Upto start code done at address) (fits : (i : ℕ) → Fits w8 (getD code i 0))
+      (l : Line) (p : l ≡ adds blank (turnText address (drop at code))) where
+    turned : Upto start code (done + l .length) (at + n) ((address + n) % 65536)
+    turned = next u h (λ i. fits i .fits) p q
+
+    -- how long the listing can be by now bounds what the code counts
+    pub done-fits : length code ≤ 4096 → Fits w64 (done + l .length)
+    done-fits small = omega (arith, turned .within, length-lines 0 start code (λ i. fits i .fits) (omega arith))
+
+    pub upto-next : (word : ℕ) → word ≡ (address + n) % 65536 → Upto start code (done + l .length) (at + n) word
+    upto-next word e = rw e turned

@@ -1,27 +1,30 @@
 -- A session's answer is never longer than the buffer it was given into, so the part that is written out is a part of it.
 -- Assumes nothing.
 use Prim.Native.Nat.{ℕ, _≤_}
-use mathlib.Core.Path.{_≡_, refl, sym}
+use mathlib.Core.Path.{_≡_, sym}
 use mathlib.Core.Bool.{Bool, true, false, cond}
 use mathlib.Core.List.{List}
 use native.Mathlib.Omega.{arith}
 use lib.Dec.{leb}
-use lib.ListN.{length}
+use lib.ListN.{length, take, length-append}
 use lib.Seq.{length-take-le}
 use borrow.Author.Needs.{needs}
-use borrow.Author.Tests.{leb-true}
-use Rattle.text.specs.Given.{Wanted, says, refuses, accepted, refused, Given}
+use Rattle.text.specs.Given.{Wanted, says, refuses, accepted, refused, laidInto, Given}
 use Rattle.text.specs.declared.Written.{Written}
 use Rattle.list.proofs.main.Statement.{statement}
 use Rattle.list.proofs.main.Tie as tie
 
-given-within : (w : Wanted) {before after : List ℕ} {r : Written} → Given w before after r → r .length ≤ length before
-given-within (refuses n) g = rw (g .answer) (omega arith)
-given-within (says t) {before} g = rw (g .answer) (go (leb (length t) (length before)) refl)
+-- the answer's length, and the part of the buffer that it names
+given-within : (w : Wanted) (before after : List ℕ) (r : Written) → Given w before after r → r .length ≤ length after
+given-within (refuses n) before after r g = rw (g .answer) (omega arith)
+given-within (says t) before after r g = rw (g .answer, g .buffer) (go (leb (length t) (length before)))
   where
-    go : (b : Bool) → leb (length t) (length before) ≡ b → cond b (accepted (length t)) (refused 3) .length ≤ length before
-    go true e = leb-true (length t) (length before) e
-    go false e = omega arith
+    go : (b : Bool) → cond b (accepted (length t)) (refused 3) .length ≤ length (cond b (laidInto before t) before)
+    go true = simp length-append (omega arith)
+    go false = omega arith
+
+given-part : (w : Wanted) (before after : List ℕ) (r : Written) → Given w before after r → r .length ≡ length (take (r .length) after)
+given-part w before after r g = sym (length-take-le (r .length) after (given-within w before after r g))
 
 slice-aggregate-read-full : tie.Need-slice-aggregate-read-full
 slice-aggregate-read-full c = search needs
@@ -42,11 +45,10 @@ session-requires : tie.Need-session-requires
 session-requires c κs = search needs
 
 array-share-prefix-out : tie.Need-array-share-prefix-out
-array-share-prefix-out c = omega (arith, given-within _ (c .before .session .ensures))
+array-share-prefix-out c = search (needs, given-within)
 
 slice-aggregate-write-all : tie.Need-slice-aggregate-write-all
-slice-aggregate-write-all c =
-    sym (length-take-le _ (c .before .before .session .last .1 .0) (omega (arith, given-within _ (c .before .before .session .ensures))))
+slice-aggregate-write-all c = search (needs, given-part)
 
 write-all-requires : tie.Need-write-all-requires
 write-all-requires c κs = search needs

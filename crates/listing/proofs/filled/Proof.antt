@@ -1,8 +1,10 @@
 -- The count says how many modes the list has: from 3 up it is all three.
 -- Assumes nothing.
+use mathlib.Core.Path.{refl}
 use native.Mathlib.Omega.{arith}
 use borrow.Author.Needs.{needs}
-use Rattle.opcode_data.proofs.Lists.{all-three}
+use Rattle.opcode_data.proofs.Lists.{sum-one, sum-two, sum-three}
+use Rattle.listing.specs.Instruction.{fills, filled}
 use Rattle.listing.proofs.filled.Statement.{statement}
 use Rattle.listing.proofs.filled.Tie as tie
 
@@ -37,13 +39,13 @@ returns : tie.Need-returns
 returns c = search needs
 
 returns-2 : tie.Need-returns-2
-returns-2 c = rw (c .before .match .keys2) (omega arith, omega arith)
+returns-2 c = (search (needs, sum-one fills filled refl (λ m ms. refl)), omega arith)
 
 returns-3 : tie.Need-returns-3
-returns-3 c = rw (c .before .before .match .keys3) (omega arith, omega arith)
+returns-3 c = (search (needs, sum-two fills filled refl (λ m ms. refl)), omega arith)
 
 returns-4 : tie.Need-returns-4
-returns-4 c = rw (all-three (c .before .before .before .before .args .modes) (omega arith)) (omega arith, omega arith)
+returns-4 c = (search (needs, sum-three fills filled refl (λ m ms. refl)), omega arith)
 
 pub filled-spec : {M : Type 1} → statement M
 filled-spec =

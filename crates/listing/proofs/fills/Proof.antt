@@ -3,8 +3,8 @@
 use Prim.Native.Nat.{ℕ}
 use mathlib.Core.Path.{_≡_, refl, sym, _∙_}
 use mathlib.Core.Bool.{Bool}
+use mathlib.Core.List.{[], _∷_}
 use mathlib.Core.Logic.{⊎-elim}
-use native.Mathlib.Omega.{arith}
 use lib.Dec.{eqb, eqb→eq}
 use denote.Enum.Declared.{tagOf}
 use types.Run.{OneOf}
@@ -25,20 +25,22 @@ fills-at m = by-place fills (λ n. refl) m
 abbrev agrees : ℕ → Bool
 agrees place = eqb (sizes takes place) (sizes fills place)
 
-same : (m : AddressMode) → OneOf (kept agrees (upFrom 24 0)) (tagOf the-type m) → takes m ≡ fills m
-same m h =
-    sym (by-place takes (λ n. refl) m) ∙ eqb→eq _ _ (holds-at agrees (upFrom 24 0) (tagOf the-type m) h) ∙ fills-at m
+as-taken : (m : AddressMode) (n : ℕ) → n ≡ takes m → OneOf (kept agrees (upFrom 24 0)) (tagOf the-type m) → n ≡ fills m
+as-taken m n e h =
+    e ∙ sym (by-place takes (λ n. refl) m) ∙ eqb→eq _ _ (holds-at agrees (upFrom 24 0) (tagOf the-type m) h) ∙ fills-at m
+
+-- the places of the others
+two-bytes : (m : AddressMode) → OneOf (18 ∷ 19 ∷ []) (tagOf the-type m) → 2 ≡ fills m
+two-bytes m h = let there = fills-at m in ⊎-elim (λ e. rw e at there) (λ e. rw e at there) h
 
 takes-requires : tie.Need-takes-requires
 takes-requires c κs = search needs
 
 returns : tie.Need-returns
-returns c =
-    let there = fills-at (c .before .args .mode) in
-    (⊎-elim (λ e. rw e at there) (λ e. rw e at there) (c .match .keys1), omega arith)
+returns c = search (needs, two-bytes)
 
 returns-2 : tie.Need-returns-2
-returns-2 c = (c .takes .ensures .0 ∙ same (c .before .before .args .mode) (c .before .match .keys2), c .takes .ensures .1)
+returns-2 c = search (needs, as-taken)
 
 pub fills-spec : {M : Type 1} → statement M
 fills-spec = tie.close (tie.spec takes-requires returns returns-2)

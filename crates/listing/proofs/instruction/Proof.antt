@@ -1,16 +1,21 @@
 -- The code's test is the definition's, and an instruction's text is short enough for the line to show it whole.
 -- Assumes nothing.
-use Prim.Native.Nat.{ℕ, _<_, _≤_}
+use Prim.Native.Nat.{ℕ, _-_, _<_, _≤_}
 use mathlib.Core.Path.{_≡_, refl}
 use mathlib.Core.Bool.{true, false}
 use mathlib.Core.List.{List, [], _∷_}
 use native.Mathlib.Omega.{arith}
-use lib.ListN.{length, getD, drop}
+use lib.ListN.{length, getD, take, drop}
+use mir.Syntax.{w8}
+use mir.Val.{Fits}
 use borrow.Author.Needs.{needs}
 use borrow.Rule.Slice.PartAt.{part-to-end}
 use Rattle.laws.specs.Bytes.{Bytes, bytes-drop}
-use Rattle.text.specs.Given.{says, refuses}
-use Rattle.text.proofs.Laws.{gives-added}
+use Rattle.text.specs.Given.{Given, says, refuses, refused}
+use Rattle.text.specs.declared.Line.{Line}
+use Rattle.text.specs.declared.Written.{Written}
+use Rattle.text.specs.Line.{blank, adds, shown}
+use Rattle.text.proofs.Laws.{gives-new}
 use Rattle.listing.specs.Instruction.{lengthOf, instructionText, isCut, listedOf}
 use Rattle.listing.specs.Lengths.{instruction-fits}
 use Rattle.listing.proofs.Cut.{is-cut, is-whole}
@@ -26,11 +31,27 @@ listed-whole : (code : List ℕ) → 0 < length code → isCut code ≡ false
 listed-whole [] some e = absurd (omega arith)
 listed-whole (opcode ∷ code) some e = rw e
 
-returns : tie.Need-returns
+-- what each way out gives
+empty : (code buffer : List ℕ) → length code ≡ 0 → Given (listedOf code) buffer buffer (refused 4)
 unfolding lengthOf
-returns c =
-    let code = c .before .before .before .args .code .now in
-    rw (listed-cut code (is-cut code (omega arith))) (record { answer = refl; buffer = refl })
+empty code buffer h = rw (listed-cut code (is-cut code (omega arith))) (record { answer = refl; buffer = refl })
+
+cut : (code buffer : List ℕ) (n : ℕ) → n ≡ lengthOf (getD code 0 0) → length code < n → Given (listedOf code) buffer buffer (refused 4)
+cut code buffer n e h = rw (listed-cut code (is-cut code (omega arith))) (record { answer = refl; buffer = refl })
+
+whole : (code before after : List ℕ) (n : ℕ) (l start : Line) (r : Written) → Given (says (shown l)) before after r
+    → l ≡ adds start (instructionText (getD code 0 0) (take (length code - 1) (drop 1 code))) → start ≡ blank
+    → ((at : ℕ) → Fits w8 (getD code at 0)) → n ≡ lengthOf (getD code 0 0) → n ≤ length code → Given (listedOf code) before after r
+unfolding lengthOf
+whole code before after n l start r gives line new fits e enough =
+    let bytes : Bytes code = λ at. fits at .fits in
+    let some : 0 < length code = omega arith in
+    rw (listed-whole code some (is-whole code some (omega arith)))
+    (gives-new l start new (rw part-to-end at line)
+    (instruction-fits (getD code 0 0) (drop 1 code) (bytes 0) (bytes-drop 1 code bytes)) gives)
+
+returns : tie.Need-returns
+returns c = search (needs, empty)
 
 shared-slice-read-opcode : tie.Need-shared-slice-read-opcode
 shared-slice-read-opcode c = search needs
@@ -39,9 +60,7 @@ length-requires : tie.Need-length-requires
 length-requires c κs = search needs
 
 returns-2 : tie.Need-returns-2
-returns-2 c =
-    let code = c .before .before .before .before .before .before .args .code .now in
-    rw (listed-cut code (is-cut code (omega arith))) (record { answer = refl; buffer = refl })
+returns-2 c = search (needs, cut)
 
 new-requires : tie.Need-new-requires
 new-requires c κs = search needs
@@ -65,18 +84,7 @@ same-length : tie.Need-same-length
 same-length c = search needs
 
 returns-3 : tie.Need-returns-3
-returns-3 c =
-    let start = c .before .before .before .before .before .before .before .before .before .before .before .before in
-    let code = start .before .args .code .now in
-    let bytes : Bytes code = λ at. omega (arith, start .shared-slice-known .given at) in
-    let line = c .before .before .before .before .on-line .ensures in
-    let some : 0 < length code = omega arith in
-    let enough : lengthOf (getD code 0 0) ≤ length code = omega arith in
-    rw (listed-whole code some (is-whole code some enough))
-    (gives-added _
-    (rw (c .before .before .before .before .before .before .new .ensures, part-to-end) at line)
-    (instruction-fits (getD code 0 0) (drop 1 code) (bytes 0) (bytes-drop 1 code bytes))
-    (c .before .before .give .ensures))
+returns-3 c = search (needs, whole)
 
 pub instruction-spec : {M : Type 1} → statement M
 instruction-spec =

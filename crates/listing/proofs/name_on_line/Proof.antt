@@ -2,7 +2,7 @@
 -- Assumes nothing.
 use Prim.Native.Nat.{ℕ, _+_, _-_, _<_, _≤_}
 use Prim.Native.Char.{code}
-use mathlib.Core.Path.{_≡_, refl, _∙_}
+use mathlib.Core.Path.{_≡_, refl}
 use mathlib.Core.List.{List}
 use mathlib.Core.Logic.{⊎-elim}
 use native.Mathlib.Numerals.{add-one}
@@ -41,38 +41,28 @@ add-i c = omega arith
 loop-less : tie.Need-loop-less Inv-loop μ-loop
 loop-less c = omega arith
 
-module _ (name : List ℕ) (i : ℕ) (h : i < length name) where
-  -- a letter is put behind the line
-  put : (l : Line) → (getD name i 0 ≡ code " " → ⊥)
-      → adds (pushed l (getD name i 0)) (letters (drop (i + 1) name)) ≡ adds l (letters (drop i name))
+-- what is so on the line, with the letters behind place i, is the same with those behind the next: a letter is put on it, a blank is not
+module _ (name : List ℕ) (i : ℕ) (five : length name ≡ 5) (h : i < 5) (l₀ l r : Line) where
+  put : (m : Line) → r ≡ m → m ≡ pushed l (getD name i 0) → (getD name i 0 ≡ code " " → ⊥)
+      → adds l (letters (drop i name)) ≡ adds l₀ (letters name) → adds r (letters (drop (i + 1) name)) ≡ adds l₀ (letters name)
   unfolding adds
-  put l q = rw (add-one, drop-cons name i 0 h, ne-eqb _ _ q)
+  put m p q letter e = rw (p, q, add-one) (rw (drop-cons name i 0 (omega arith), ne-eqb _ _ letter) at e)
 
-  -- a blank is not
-  skip : (l : Line) → getD name i 0 ≡ code " " → adds l (letters (drop (i + 1) name)) ≡ adds l (letters (drop i name))
-  skip l q = rw (add-one, drop-cons name i 0 h, q)
+  skip : r ≡ l → getD name i 0 ≡ code " " → adds l (letters (drop i name)) ≡ adds l₀ (letters name)
+      → adds r (letters (drop (i + 1) name)) ≡ adds l₀ (letters name)
+  skip p blank e = rw (p, add-one) (rw (drop-cons name i 0 (omega arith), blank) at e)
+
+-- behind the last place no letter is left
+all-put : (name : List ℕ) (i : ℕ) (l r : Line) → length name ≡ 5 → 5 ≤ i → i ≤ 5 → adds r (letters (drop i name)) ≡ adds l (letters name)
+    → r ≡ adds l (letters name)
+unfolding adds
+all-put name i l r five g h e = let all : i ≡ length name = omega arith in rw (all, drop-length) at e
 
 loop-again : tie.Need-loop-again Inv-loop μ-loop
-loop-again c =
-    let name = c .before .before .before .args .t2 in
-    let i = c .before .before .loop .i in
-    let five : length name ≡ 5 = c .before .before .before .good .1 .0 .1 .0 .1 in
-    let within : i < length name = omega arith in
-    let so-far = c .before .before .loop .inv .1 in (
-      omega arith,
-      ⊎-elim
-          (λ w. rw (w .2, w .1 .ensures) (put name i within _ (w .0 .taken) ∙ so-far))
-          (λ w. rw (w .1) (skip name i within _ (w .0 .left) ∙ so-far))
-          (c .if1 .came),
-    )
+loop-again c = (omega arith, ⊎-elim (λ w. search (needs, put)) (λ w. search (needs, skip)) (c .if1 .came))
 
 returns : tie.Need-returns Inv-loop μ-loop
-unfolding adds
-returns c =
-    let name = c .before .before .args .t2 in
-    let five : length name ≡ 5 = c .before .before .good .1 .0 .1 .0 .1 in
-    let all : c .before .loop .i ≡ length name = omega arith in
-    rw (all, drop-length) at (c .before .loop .inv .1)
+returns c = search (needs, all-put)
 
 pub name-on-line-spec : {M : Type 1} → statement M
 name-on-line-spec =

@@ -9,11 +9,13 @@ use borrow.Author.Needs.{needs}
 use Rattle.text.specs.Line.{pushed, adds}
 use Rattle.text.specs.declared.Line.{Line}
 use Rattle.text.specs.Quoted.{text}
-use Rattle.text.proofs.Laws.{adds-append}
+use Rattle.text.proofs.Laws.{and-byte, then-text}
 use Rattle.opcode_data.specs.Format.{modesText}
 use Rattle.opcode_data.specs.Lists.{listOf}
 use Rattle.opcode_data.specs.declared.Modes.{Modes}
-use Rattle.listing.specs.Instruction.{operandsText, instructionText}
+use Rattle.opcode_data.specs.declared.OpcodeData.{OpcodeData}
+use Rattle.opcode_data.specs.Data.{dataOf}
+use Rattle.listing.specs.Instruction.{letters, operandsText, instructionText}
 use Rattle.listing.proofs.on_line.Statement.{statement}
 use Rattle.listing.proofs.on_line.Tie as tie
 
@@ -27,10 +29,20 @@ some-operands m bytes h = go (m .count) h
     go zero h = absurd (h refl)
     go (suc n) h = refl
 
-behind-blank : (l : Line) (name operands : List ℕ)
-    → adds (pushed (adds l name) (code " ")) operands ≡ adds l (name ++ (text " " ++ operands))
-unfolding adds
-behind-blank l name operands = adds-append l name (text " " ++ operands)
+-- a name without operands, and with
+name-only : (l r : Line) (opcode : ℕ) (bytes : List ℕ) (d : OpcodeData)
+    → r ≡ adds l (letters (d .name)) → d ≡ dataOf opcode → d .modes .count ≡ 0 → r ≡ adds l (instructionText opcode bytes)
+unfolding instructionText
+name-only l r opcode bytes d p e none = rw (← e, none, append-nil) p
+
+with-operands : (l named start r : Line) (opcode : ℕ) (bytes : List ℕ) (d : OpcodeData) → r ≡ adds start (modesText (listOf (d .modes)) bytes)
+    → start ≡ pushed named (code " ") → named ≡ adds l (letters (d .name)) → d ≡ dataOf opcode → (d .modes .count ≡ 0 → ⊥)
+    → r ≡ adds l (instructionText opcode bytes)
+unfolding instructionText
+with-operands l named start r opcode bytes d o b n e some =
+    let operands = modesText (listOf (d .modes)) bytes in
+    rw (← e, some-operands (d .modes) bytes some)
+    (then-text l named r (letters (d .name)) (text " " ++ operands) (and-byte named start r (code " ") operands b o) n)
 
 from-opcode-requires : tie.Need-from-opcode-requires
 from-opcode-requires c κs = search needs
@@ -39,10 +51,7 @@ name-on-line-requires : tie.Need-name-on-line-requires
 name-on-line-requires c κs = search needs
 
 returns : tie.Need-returns
-unfolding instructionText
-returns c =
-    rw (← c .before .before .before .before .before .from-opcode .ensures, c .if1 .taken, append-nil)
-    (c .before .before .name-on-line .ensures)
+returns c = search (needs, name-only)
 
 push-requires : tie.Need-push-requires
 push-requires c κs = search needs
@@ -51,18 +60,7 @@ on-line-requires : tie.Need-on-line-requires
 on-line-requires c κs = search needs
 
 returns-2 : tie.Need-returns-2
-unfolding instructionText
-returns-2 c =
-    let named = c .before .before .before .before in
-    let opcode-data = named .before .before .before .from-opcode in
-    rw (
-      ← opcode-data .ensures,
-      some-operands (opcode-data .result .modes) _ (c .before .before .if1 .left),
-      c .on-line .ensures,
-      c .before .push .ensures,
-      named .name-on-line .ensures,
-    )
-    (behind-blank _ _ _)
+returns-2 c = search (needs, with-operands)
 
 pub on-line-spec : {M : Type 1} → statement M
 on-line-spec =

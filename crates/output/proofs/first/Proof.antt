@@ -1,7 +1,7 @@
 -- A part that ends within the slice is its first bytes, as many as it was asked for; a slice with fewer is all of them.
 -- Assumes nothing.
-use mathlib.Core.Path.{sym}
 use borrow.Author.Needs.{needs}
+use native.Mathlib.Nat.{le-of-lt}
 use native.Mathlib.Omega.{arith}
 use lib.ListN.{length-take}
 use lib.Seq.{take-all}
@@ -15,7 +15,7 @@ returns : tie.Need-returns
 returns c = search needs
 
 returns-2 : tie.Need-returns-2
-returns-2 c = sym (take-all (c .before .args .n) (c .before .args .bytes .now) (omega arith))
+returns-2 c = search (needs, take-all, le-of-lt)
 
 pub first-spec : {M : Type 1} → statement M
 first-spec = tie.close (tie.spec slice-aggregate-result returns returns-2)

@@ -1,8 +1,7 @@
 -- The line has ten bytes, so it is shown whole.
 -- Assumes nothing.
-use native.Mathlib.Omega.{arith}
 use borrow.Author.Needs.{needs}
-use Rattle.text.proofs.Laws.{gives-added}
+use Rattle.text.proofs.Laws.{gives-new}
 use Rattle.listing.proofs.program.refuse_input.Statement.{statement}
 use Rattle.listing.proofs.program.refuse_input.Tie as tie
 
@@ -22,9 +21,7 @@ same-length : tie.Need-same-length
 same-length c = search needs
 
 returns : tie.Need-returns
-returns c =
-    let line = rw (c .before .before .before .before .before .before .new .ensures) at (c .before .before .before .before .text .ensures) in
-    gives-added _ line (omega arith) (c .before .before .give .ensures)
+returns c = search (needs, gives-new)
 
 pub refuse-input-spec : {M : Type 1} → statement M
 refuse-input-spec =

@@ -1,13 +1,15 @@
 -- The two tests of the input's length are the definition's one. The lines are measured before any of them is written.
 -- Assumes nothing.
-use Prim.Native.Nat.{ℕ, _+_, _*_, _<_, _≤_}
+use Prim.Native.Nat.{ℕ, _+_, _-_, _*_, _<_, _≤_}
 use mathlib.Core.Path.{_≡_, refl}
 use mathlib.Core.List.{List, [], _∷_}
 use native.Mathlib.Omega.{arith}
-use lib.ListN.{length, getD, drop}
+use lib.ListN.{length, getD, take, drop}
 use borrow.Author.Needs.{needs}
 use borrow.Author.Tests.{le-leb, lt-leb}
 use borrow.Rule.Slice.PartAt.{part-to-end}
+use Rattle.text.specs.declared.Written.{Written}
+use Rattle.text.specs.Given.{Given, says, accepted, refused, laidInto}
 use Rattle.listing.specs.Session.{linesOf, refusedInput, sessionOf}
 use Rattle.listing.proofs.program.session.Statement.{statement}
 use Rattle.listing.proofs.program.session.Tie as tie
@@ -31,6 +33,32 @@ listed [] h g = absurd (omega arith)
 listed (low ∷ []) h g = absurd (omega arith)
 listed (low ∷ high ∷ code) h g = rw (le-leb (length code) 4096 (omega arith))
 
+-- what each way out gives
+short-input : (input before after : List ℕ) (r : Written) → length input < 2 → Given (says refusedInput) before after r
+    → Given (says (sessionOf input)) before after r
+short-input input before after r h gives = rw (too-short input h) gives
+
+long-input : (input before after : List ℕ) (r : Written) → 4098 < length input → Given (says refusedInput) before after r
+    → Given (says (sessionOf input)) before after r
+long-input input before after r h gives = rw (too-long input h) gives
+
+-- the lines of the code behind the start address
+abbrev lines : List ℕ → List ℕ
+lines input = linesOf 0 (getD input 1 0 * 256 + getD input 0 0) (take (length input - 2) (drop 2 input))
+
+module _ (input before : List ℕ) (n : ℕ) (total : n ≡ length (lines input)) (h : 2 ≤ length input) (g : length input ≤ 4098) where
+  is-listed : sessionOf input ≡ lines input
+  is-listed = rw (part-to-end, listed input h g)
+
+  no-room : length before < n → Given (says (sessionOf input)) before before (refused 3)
+  no-room less = let short = lt-leb (length (lines input)) (length before) (omega arith) in
+      rw is-listed (record { answer = rw short; buffer = rw short })
+
+  all-written : (after : List ℕ) → after ≡ laidInto before (lines input) → n ≤ length before
+      → Given (says (sessionOf input)) before after (accepted n)
+  all-written after laid room = let fits = le-leb (length (lines input)) (length before) (omega arith) in
+      rw is-listed (record { answer = rw (fits, total); buffer = rw fits laid })
+
 refuse-input-requires : tie.Need-refuse-input-requires
 refuse-input-requires c κs = search needs
 
@@ -38,9 +66,7 @@ same-length : tie.Need-same-length
 same-length c = search needs
 
 returns : tie.Need-returns
-returns c =
-    rw (too-short (c .before .before .before .before .before .before .before .args .input .now) (omega arith))
-    (c .before .before .refuse-input .ensures)
+returns c = search (needs, short-input)
 
 refuse-input-requires-2 : tie.Need-refuse-input-requires-2
 refuse-input-requires-2 c κs = search needs
@@ -49,9 +75,7 @@ same-length-2 : tie.Need-same-length-2
 same-length-2 c = search needs
 
 returns-2 : tie.Need-returns-2
-returns-2 c =
-    rw (too-long (c .before .before .before .before .before .before .before .before .args .input .now) (omega arith))
-    (c .before .before .refuse-input2 .ensures)
+returns-2 c = search (needs, long-input)
 
 sub-code : tie.Need-sub-code
 sub-code c = search needs
@@ -84,11 +108,7 @@ measure-requires : tie.Need-measure-requires
 measure-requires c κs = search needs
 
 returns-3 : tie.Need-returns-3
-returns-3 c =
-    let start = c .before .before .before .before .before .before .before .before .before .args in
-    let total = rw part-to-end at (c .before .measure .ensures) in
-    let short = lt-leb _ (length (start .out .now)) (rw total at (c .if3 .taken)) in
-    rw (listed (start .input .now) (omega arith) (omega arith)) (record { answer = rw short; buffer = rw short })
+returns-3 c = search (needs, no-room)
 
 write-requires : tie.Need-write-requires
 write-requires c κs = search needs
@@ -97,12 +117,7 @@ same-length-3 : tie.Need-same-length-3
 same-length-3 c = search needs
 
 returns-4 : tie.Need-returns-4
-returns-4 c =
-    let start = c .before .before .before .before .before .before .before .before .before .before .before .before .before .args in
-    let total = rw part-to-end at (c .before .before .before .before .before .measure .ensures) in
-    let enough = le-leb _ (length (start .out .now)) (rw total at (c .before .before .before .before .if3 .left)) in
-    rw (listed (start .input .now) (omega arith) (omega arith))
-    (record { answer = rw (enough, total); buffer = rw enough (rw part-to-end at (c .before .before .write .ensures)) })
+returns-4 c = search (needs, all-written)
 
 pub session-spec : {M : Type 1} → statement M
 session-spec =

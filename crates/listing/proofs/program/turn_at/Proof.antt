@@ -1,13 +1,12 @@
 -- The code's test is the definition's. A whole instruction's line is written in the definition's order.
 -- Assumes nothing.
-use Prim.Native.Char.{code}
-use Prim.Native.Nat.{ℕ, _<_}
+use Prim.Native.Nat.{ℕ, _-_, _<_, _≤_}
 use mathlib.Core.Path.{_≡_}
 use mathlib.Core.Bool.{true, false}
 use mathlib.Core.List.{List, [], _∷_, append-assoc}
 use native.Mathlib.Numerals.{add-one}
 use native.Mathlib.Omega.{arith}
-use lib.ListN.{length, getD, drop, length-drop}
+use lib.ListN.{length, getD, take, drop, length-drop}
 use borrow.Author.Needs.{needs}
 use borrow.Rule.Slice.PartAt.{part-to-end}
 use Rattle.text.specs.Digits.{hexWord}
@@ -34,13 +33,42 @@ module _ (address : ℕ) where
   turn-whole [] some e = absurd (omega arith)
   turn-whole (opcode ∷ code) some e = (rw e, rw e)
 
--- the parts of a line, written one behind the other
-written : (address opcode : ℕ) (operands : List ℕ) {a b d e f : Line}
-    → a ≡ blank → b ≡ adds a (hexWord address) → d ≡ pushed b (code " ")
-    → e ≡ adds d (instructionText opcode operands) → f ≡ pushed e (code "\n")
-    → f ≡ adds blank (lineText address opcode operands)
-unfolding lineText
-written address opcode operands p q r s t = simp (t, s, r, q, p, adds-push, adds-append, append-assoc)
+-- the bytes from a place on, as the code takes them
+abbrev from-place : List ℕ → ℕ → List ℕ
+from-place code at = take (length code - at) (drop at code)
+
+module _ (code : List ℕ) (at : ℕ) (h : at < length code) (n : ℕ) (e : n ≡ lengthOf (getD (from-place code at) 0 0)) where
+  some : 0 < length (drop at code)
+  some = rw length-drop (omega arith)
+
+  bytes : n ≡ lengthOf (getD (drop at code) 0 0)
+  bytes = rw part-to-end at e
+
+  module _ (less : length (from-place code at) < n) where
+    is-short : isCut (drop at code) ≡ true
+    is-short = let test = rw part-to-end at less in is-cut (drop at code) (omega (arith, bytes))
+
+    cut-line : (address : ℕ) (l start : Line) → l ≡ adds start (text "refused 4\n") → start ≡ blank → l ≡ adds blank (turnText address (drop at code))
+    cut-line address l start p new = rw (turn-cut address (drop at code) some is-short .0) (rw new at p)
+
+    cut-bytes : length (from-place code at) ≡ turnBytes (drop at code)
+    cut-bytes = rw (part-to-end, turn-cut 0 (drop at code) some is-short .1)
+
+  module _ (enough : n ≤ length (from-place code at)) where
+    is-full : isCut (drop at code) ≡ false
+    is-full = let test = rw part-to-end at enough in is-whole (drop at code) some (omega (arith, bytes))
+
+    whole-bytes : n ≡ turnBytes (drop at code)
+    whole-bytes = rw (turn-whole 0 (drop at code) some is-full .1) bytes
+
+    -- the parts of a line, written one behind the other
+    whole-line : (address : ℕ) (a b d o r : Line) → r ≡ pushed o 10
+        → o ≡ adds d (instructionText (getD (from-place code at) 0 0) (from-place (from-place code at) 1)) → d ≡ pushed b 32
+        → b ≡ adds a (hexWord address) → a ≡ blank → r ≡ adds blank (turnText address (drop at code))
+    unfolding lineText
+    whole-line address a b d o r t s q p new =
+        rw (turn-whole address (drop at code) some is-full .0)
+        (simp (t, s, q, p, new, part-to-end, adds-push, adds-append, append-assoc))
 
 sub-part : tie.Need-sub-part
 sub-part c = search needs
@@ -67,15 +95,7 @@ text-requires : tie.Need-text-requires
 text-requires c κs = search needs
 
 returns : tie.Need-returns
-returns c =
-    let start = c .before .before .before .before .before .before .before .before .args in
-    let part = drop (start .at) (start .code .now) in
-    let all = part-to-end (start .code .now) (start .at) in
-    let bytes : c .before .before .before .before .length .result ≡ lengthOf (getD part 0 0) =
-    rw all at (c .before .before .before .before .length .ensures) in
-    let test = rw all at (c .before .before .before .if1 .taken) in
-    let cut = turn-cut (start .address) part (rw length-drop (omega arith)) (is-cut part (omega arith)) in
-    (rw (cut .0, ← c .before .before .new .ensures) (c .text .ensures), rw (all, cut .1))
+returns c = search (needs, cut-line, cut-bytes)
 
 new-requires-2 : tie.Need-new-requires-2
 new-requires-2 c κs = search needs
@@ -102,24 +122,7 @@ push-requires-2 : tie.Need-push-requires-2
 push-requires-2 c κs = search needs
 
 returns-2 : tie.Need-returns-2
-returns-2 c =
-    let known = c .before .before .before .before .before .before in
-    let start = known .before .before .before .before .before .args in
-    let part = drop (start .at) (start .code .now) in
-    let all = part-to-end (start .code .now) (start .at) in
-    let bytes : known .before .length .result ≡ lengthOf (getD part 0 0) = rw all at (known .before .length .ensures) in
-    let test = rw all at (known .if1 .left) in
-    let some : 0 < length part = rw length-drop (omega arith) in
-    let whole = turn-whole (start .address) part some (is-whole part some (omega arith)) in (
-      rw (whole .0)
-          (written (start .address) _ _
-          (c .before .before .before .before .before .new2 .ensures)
-          (c .before .before .before .before .hex-word .ensures)
-          (c .before .before .before .push .ensures)
-          (simp part-to-end at (c .before .on-line .ensures))
-          (c .push2 .ensures)),
-      rw (whole .1) bytes,
-    )
+returns-2 c = search (needs, whole-line, whole-bytes)
 
 pub turn-at-spec : {M : Type 1} → statement M
 turn-at-spec =

@@ -1,22 +1,26 @@
 -- The buffer starts with as much of the listing as stands for the code bytes passed so far, and is as it was behind that.
 -- Assumes nothing.
-use Prim.Native.Nat.{ℕ, _+_, _-_, _%_, _≤_}
+use Prim.Native.Nat.{ℕ, _+_, _-_, _<_, _≤_}
 use mathlib.Core.Path.{_≡_, refl, sym, _∙_}
 use mathlib.Core.List.{List, _++_, append-nil, append-assoc}
 use native.Mathlib.Omega.{arith}
-use lib.ListN.{length, take, drop, length-drop}
+use lib.ListN.{length, getD, take, drop, length-drop}
 use lib.Seq.{length-take-le, length-front, take-length, drop-length, drop-drop, take-at, drop-at}
 use borrow.Author.Needs.{needs}
 use borrow.Author.Tests.{le-leb}
 use borrow.Rule.Slice.PartAt.{part-to-end}
 use borrow.Rule.Slice.PartMut.{putMid, post-is}
+use mir.Syntax.{w8}
+use mir.Val.{Fits}
 use Rattle.laws.specs.Bytes.{Bytes, bytes-drop}
-use Rattle.text.specs.Given.{Given, says}
+use Rattle.text.specs.Given.{Given, says, laidInto}
+use Rattle.text.specs.Line.{blank, adds, shown}
+use Rattle.text.specs.declared.Line.{Line}
 use Rattle.text.specs.declared.Written.{Written}
 use Rattle.text.proofs.Laws.{length-adds, gives-added}
 use Rattle.listing.specs.Lengths.{turn-fits}
 use Rattle.listing.specs.Session.{turnText, linesOf}
-use Rattle.listing.proofs.Lines.{Upto, Next, nothing-yet, next, text-so-far, all-done}
+use Rattle.listing.proofs.Lines.{Upto, nothing-yet, text-so-far, ends, all-done, done-fits, place-fits, bytes-fit, fewer-left, upto-next}
 use Rattle.listing.proofs.program.write.Statement.{statement}
 use Rattle.listing.proofs.program.write.Tie as tie
 
@@ -54,31 +58,38 @@ loop-holds c = (nothing-yet _ _ (omega arith), refl)
 turn-at-requires : tie.Need-turn-at-requires Inv-loop μ-loop
 turn-at-requires c κs = search needs
 
-bytes : (c : tie.After-turn-at Inv-loop μ-loop) → Bytes (c .before .before .before .before .before .args .code .now)
-bytes c at = omega (arith, c .before .before .before .before .shared-slice-known .given at)
+module _ (start : ℕ) (code out₀ out : List ℕ) (done at address : ℕ) (u : Upto start code done at address)
+    (laid : out ≡ take done (linesOf 0 start code) ++ drop done out₀) (room : length (linesOf 0 start code) ≤ length out₀) where
+  -- the buffer is as long as it was, and what is done lies in it
+  still-long : length out ≡ length out₀
+  still-long = rw laid (length-done (linesOf 0 start code) out₀ done (u .within) (omega (arith, u .within)))
 
--- what the line at hand adds
-step : (c : tie.After-turn-at Inv-loop μ-loop)
-    → (let start = c .before .before .before .before .before .args in
-    let loop = c .before .before .loop in
-    let turn = c .turn-at .result in
-    Next (start .start) (start .code .now) (loop .done + turn .line .length) (loop .at + turn .bytes)
-    ((loop .address + turn .bytes) % 65536) (turn .bytes))
-step c = next (c .before .before .loop .inv .0) (omega arith) (bytes c) (c .turn-at .ensures .0) (c .turn-at .ensures .1)
+  room-left : done ≤ length out
+  room-left = omega (arith, u .within, still-long)
 
--- the buffer is as long as it was
-kept : (c : tie.At-loop Inv-loop μ-loop) → length (c .loop .out) ≡ length (c .before .before .before .args .out .now)
-kept c =
-    let start = c .before .before .before .args in
-    let within = c .loop .inv .0 .within in
-    rw (c .loop .inv .1)
-    (length-done (linesOf 0 (start .start) (start .code .now)) (start .out .now) (c .loop .done) within (omega arith))
+  -- where no code is left, it starts with the whole listing
+  all-laid : length code ≤ at → out ≡ laidInto out₀ (linesOf 0 start code)
+  all-laid h = rw (all-done u h, take-length) at laid
+
+  -- the line at hand, given into the rest of it
+  line-stored : (l : Line) (part : List ℕ) (r : Written) → Given (says (shown l)) (take (length out - done) (drop done out)) part r
+      → l ≡ adds blank (turnText address (drop at code)) → at < length code → ((i : ℕ) → Fits w8 (getD code i 0))
+      → putMid done (length out - done) out part ≡ take (done + l .length) (linesOf 0 start code) ++ drop (done + l .length) out₀
+  line-stored l part r gives p h fits =
+      let line = turnText address (drop at code) in
+      let bytes : Bytes code = λ i. fits i .fits in
+      let short = turn-fits address (drop at code) (bytes-drop at code bytes) in
+      let long : l .length ≡ length line = rw p (length-adds line short) in
+      let more = text-so-far u h in
+      rw (long, laid)
+      (stored (linesOf 0 start code) out₀ done (u .within) (omega (arith, u .within)) line
+      (omega (arith, ends u h)) more (rw laid at (gives-added l p short gives)))
 
 sub-give : tie.Need-sub-give Inv-loop μ-loop
-sub-give c = omega (arith, kept (c .before .before .before))
+sub-give c = search (needs, room-left)
 
 part-give-start : tie.Need-part-give-start Inv-loop μ-loop
-part-give-start c = omega (arith, kept (c .before .before .before))
+part-give-start c = search (needs, room-left)
 
 part-give-end : tie.Need-part-give-end Inv-loop μ-loop
 part-give-end c = omega arith
@@ -87,45 +98,28 @@ give-requires : tie.Need-give-requires Inv-loop μ-loop
 give-requires c κs = search needs
 
 add-done : tie.Need-add-done Inv-loop μ-loop
-add-done c = omega (arith, step (c .before .before .before .before .before .before))
+add-done c = search (needs, done-fits)
 
 add-at : tie.Need-add-at Inv-loop μ-loop
-add-at c = omega (arith, step (c .before .before .before .before .before .before .before))
+add-at c = search (needs, place-fits)
 
 cast-wrapping-add-u16 : tie.Need-cast-wrapping-add-u16 Inv-loop μ-loop
-cast-wrapping-add-u16 c = omega (arith, step (c .before .before .before .before .before .before .before .before))
+cast-wrapping-add-u16 c = search bytes-fit
 
 wrapping-add-u16-requires : tie.Need-wrapping-add-u16-requires Inv-loop μ-loop
 wrapping-add-u16-requires c κs = search needs
 
 loop-less : tie.Need-loop-less Inv-loop μ-loop
-loop-less c = omega (arith, step (c .before .before .before .before .before .before .before .before .before))
+loop-less c = search (needs, fewer-left)
 
 loop-again : tie.Need-loop-again Inv-loop μ-loop
-loop-again c =
-    let turn = c .before .before .before .before .before .before .before .before .before in
-    let loop = turn .before .before .loop in
-    let start = turn .before .before .before .before .before .args in
-    let code = start .code .now in
-    let line = turnText (loop .address) (drop (loop .at) code) in
-    let short = turn-fits (loop .address) (drop (loop .at) code) (bytes-drop (loop .at) code (bytes turn)) in
-    let long : turn .turn-at .result .line .length ≡ length line = rw (turn .turn-at .ensures .0) (length-adds line short) in
-    let upto = step turn .upto in
-    let within = loop .inv .0 .within in
-    let gives = gives-added _ (turn .turn-at .ensures .0) short (c .before .before .before .before .before .before .give .ensures) in (
-      rw (c .wrapping-add-u16 .ensures) upto,
-      rw (long, loop .inv .1)
-          (stored (linesOf 0 (start .start) code) (start .out .now) (loop .done) within (omega arith) line
-          (omega (arith, upto .within)) (text-so-far (loop .inv .0) (omega arith)) (rw (loop .inv .1) at gives)),
-    )
+loop-again c = search (needs, upto-next, line-stored)
 
 same-length : tie.Need-same-length Inv-loop μ-loop
-same-length c = kept (c .before)
+same-length c = search (needs, still-long)
 
 returns : tie.Need-returns Inv-loop μ-loop
-returns c =
-    let all = all-done (c .before .loop .inv .0) (omega arith) in
-    rw (all, take-length) at (c .before .loop .inv .1)
+returns c = search (needs, all-laid)
 
 pub write-spec : {M : Type 1} → statement M
 write-spec =

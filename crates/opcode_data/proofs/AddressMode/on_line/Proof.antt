@@ -1,11 +1,31 @@
 -- Each arm adds its mode's pieces in the definition's order: byte by byte, that is the definition's text.
 -- Assumes nothing.
+use Prim.Native.Nat.{ℕ}
+use mathlib.Core.Path.{_≡_}
+use lib.IntN.{ℤ}
+use mir.Syntax.{w32}
+use mir.Val.{toZ, ofZ}
 use mir.Facts.{toZ-ofZ}
 use borrow.Author.Needs.{needs}
+use Rattle.text.specs.declared.Line.{Line}
+use Rattle.text.specs.Digits.{hexWord, signedDecimal}
 use Rattle.text.specs.Line.{adds}
+use Rattle.text.proofs.Laws.{written, then-number}
+use Rattle.signed.specs.Displacement.{signedOf}
 use Rattle.signed.proofs.Laws.{signed-fits}
+use Rattle.opcode_data.specs.declared.AddressMode.{AddressMode}
+use Rattle.opcode_data.specs.Format.{modeText}
 use Rattle.opcode_data.proofs.AddressMode.on_line.Statement.{statement}
 use Rattle.opcode_data.proofs.AddressMode.on_line.Tie as tie
+
+-- a mode that is known
+as-mode : (m k : AddressMode) (l r : Line) (low high : ℕ) → m ≡ k → r ≡ adds l (modeText k low high) → r ≡ adds l (modeText m low high)
+as-mode m k l r low high e p = rw e p
+
+-- a displacement, as an i32 holds it
+displaced : (l r : Line) (low : ℕ) (d : ℤ) → d ≡ signedOf low → r ≡ adds l (signedDecimal (toZ w32 (ofZ w32 d)))
+    → r ≡ adds l (signedDecimal (signedOf low))
+displaced l r low d e p = rw (e, toZ-ofZ (signed-fits low)) at p
 
 enum-told : tie.Need-enum-told
 enum-told c = search needs
@@ -278,148 +298,76 @@ hex-short-requires : tie.Need-hex-short-requires
 hex-short-requires c κs = search needs
 
 returns : tie.Need-returns
-unfolding adds
-returns c = rw (c .before .enum-told .given .1) (c .push .ensures)
+returns c = search (needs, written, as-mode)
 
 returns-2 : tie.Need-returns-2
-unfolding adds
-returns-2 c = rw (c .before .enum-told2 .given .1) (c .push2 .ensures)
+returns-2 c = search (needs, written, as-mode)
 
 returns-3 : tie.Need-returns-3
-returns-3 c = rw (c .before .before .enum-told3 .given .1) (c .text .ensures)
+returns-3 c = search (needs, written, as-mode)
 
 returns-4 : tie.Need-returns-4
-unfolding adds
-returns-4 c = rw (c .before .enum-told4 .given .1) (c .push3 .ensures)
+returns-4 c = search (needs, written, as-mode)
 
 returns-5 : tie.Need-returns-5
-returns-5 c = rw (c .before .before .enum-told5 .given .1) (c .text2 .ensures)
+returns-5 c = search (needs, written, as-mode)
 
 returns-6 : tie.Need-returns-6
-unfolding adds
-returns-6 c =
-    rw (c .before .before .before .enum-told6 .given .1, c .hex-byte .ensures, c .before .text3 .ensures)
+returns-6 c = search (needs, written, as-mode)
 
 returns-7 : tie.Need-returns-7
-unfolding adds
-returns-7 c =
-    rw (c .before .before .enum-told7 .given .1, c .hex-byte2 .ensures, c .before .push4 .ensures)
+returns-7 c = search (needs, written, as-mode)
 
 returns-8 : tie.Need-returns-8
-unfolding adds
-returns-8 c =
-    rw (
-      c .before .before .before .before .enum-told8 .given .1,
-      c .text4 .ensures,
-      c .before .before .hex-byte3 .ensures,
-      c .before .before .before .push5 .ensures,
-    )
+returns-8 c = search (needs, written, as-mode)
 
 returns-9 : tie.Need-returns-9
-unfolding adds
-returns-9 c =
-    rw (
-      c .before .before .before .before .enum-told9 .given .1,
-      c .text5 .ensures,
-      c .before .before .hex-byte4 .ensures,
-      c .before .before .before .push6 .ensures,
-    )
+returns-9 c = search (needs, written, as-mode)
 
 returns-10 : tie.Need-returns-10
-returns-10 c = rw (c .before .before .enum-told10 .given .1) (c .text6 .ensures)
+returns-10 c = search (needs, written, as-mode)
 
 returns-11 : tie.Need-returns-11
-returns-11 c = rw (c .before .before .enum-told11 .given .1) (c .text7 .ensures)
+returns-11 c = search (needs, written, as-mode)
 
 returns-12 : tie.Need-returns-12
-unfolding adds
-returns-12 c =
-    rw (
-      c .before .before .before .before .before .enum-told12 .given .1,
-      c .text9 .ensures,
-      c .before .before .hex-byte5 .ensures,
-      c .before .before .before .text8 .ensures,
-    )
+returns-12 c = search (needs, written, as-mode)
 
 returns-13 : tie.Need-returns-13
-unfolding adds
-returns-13 c =
-    rw (
-      c .before .before .before .before .before .enum-told13 .given .1,
-      c .text11 .ensures,
-      c .before .before .hex-byte6 .ensures,
-      c .before .before .before .text10 .ensures,
-    )
+returns-13 c = search (needs, written, as-mode)
 
 returns-14 : tie.Need-returns-14
-unfolding adds
-returns-14 c =
-    rw (
-      c .before .before .before .enum-told14 .given .1,
-      c .hex-word .ensures,
-      c .before .before .push7 .ensures,
-      c .before .word .ensures,
-    )
+returns-14 c = search (needs, written, as-mode, then-number hexWord)
 
 returns-15 : tie.Need-returns-15
-unfolding adds
-returns-15 c =
-    rw (
-      c .before .before .before .before .before .enum-told15 .given .1,
-      c .text12 .ensures,
-      c .before .before .hex-word2 .ensures,
-      c .before .before .before .before .push8 .ensures,
-      c .before .before .before .word2 .ensures,
-    )
+returns-15 c = search (needs, written, as-mode, then-number hexWord)
 
 returns-16 : tie.Need-returns-16
-unfolding adds
-returns-16 c =
-    rw (
-      c .before .before .before .before .before .enum-told16 .given .1,
-      c .text13 .ensures,
-      c .before .before .hex-word3 .ensures,
-      c .before .before .before .before .push9 .ensures,
-      c .before .before .before .word3 .ensures,
-    )
+returns-16 c = search (needs, written, as-mode, then-number hexWord)
 
 returns-17 : tie.Need-returns-17
-unfolding adds
-returns-17 c =
-    rw (
-      c .before .before .before .before .before .enum-told17 .given .1,
-      c .push10 .ensures,
-      c .before .hex-word4 .ensures,
-      c .before .before .before .text14 .ensures,
-      c .before .before .word4 .ensures,
-    )
+returns-17 c = search (needs, written, as-mode, then-number hexWord)
 
 returns-18 : tie.Need-returns-18
-returns-18 c =
-    let low = c .before .before .before .before .args .low in
-    rw (c .before .before .enum-told18 .given .1)
-    (rw (c .before .displacement .ensures, toZ-ofZ (signed-fits low)) at (c .signed .ensures))
+returns-18 c = search (needs, as-mode, displaced)
 
 returns-19 : tie.Need-returns-19
-returns-19 c = rw (c .before .before .enum-told19 .given .1) (c .text15 .ensures)
+returns-19 c = search (needs, written, as-mode)
 
 returns-20 : tie.Need-returns-20
-returns-20 c = rw (c .before .before .enum-told20 .given .1) (c .text16 .ensures)
+returns-20 c = search (needs, written, as-mode)
 
 returns-21 : tie.Need-returns-21
-unfolding adds
-returns-21 c = rw (c .before .enum-told21 .given .1) (c .push11 .ensures)
+returns-21 c = search (needs, written, as-mode)
 
 returns-22 : tie.Need-returns-22
-returns-22 c = rw (c .before .before .enum-told22 .given .1) (c .text17 .ensures)
+returns-22 c = search (needs, written, as-mode)
 
 returns-23 : tie.Need-returns-23
-returns-23 c = rw (c .before .before .enum-told23 .given .1) (c .text18 .ensures)
+returns-23 c = search (needs, written, as-mode)
 
 returns-24 : tie.Need-returns-24
-unfolding adds
-returns-24 c =
-    rw (c .before .before .before .before .self .given .1, c .hex-short .ensures, c .before .text19 .ensures)
+returns-24 c = search (needs, written, as-mode)
 
 pub on-line-spec : {M : Type 1} → statement M
 on-line-spec =

@@ -3,10 +3,10 @@
 use Prim.Native.Nat.{ℕ}
 use mathlib.Core.Path.{_≡_, refl, sym, _∙_}
 use mathlib.Core.Bool.{Bool}
-use native.Mathlib.Omega.{arith}
 use lib.Dec.{eqb, eqb→eq}
 use denote.Enum.Declared.{tagOf}
 use types.Run.{OneOf}
+use borrow.Author.Needs.{needs}
 use Rattle.opcode_data.specs.Format.{takes}
 use Rattle.opcode_data.specs.declared.AddressMode.{AddressMode}
 use Rattle.opcode_data.proofs.AddressMode.{the-type}
@@ -23,13 +23,13 @@ arm : (n : ℕ) (m : AddressMode) → OneOf (kept (hasSize n) (upFrom 24 0)) (ta
 arm n m h = sym (eqb→eq _ _ (holds-at (hasSize n) (upFrom 24 0) (tagOf the-type m) h)) ∙ by-place takes (λ n. refl) m
 
 returns : tie.Need-returns
-returns c = (arm 1 (c .before .args .self) (c .match .keys1), omega arith)
+returns c = search (needs, arm 1)
 
 returns-2 : tie.Need-returns-2
-returns-2 c = (arm 2 (c .before .args .self) (c .match .keys2), omega arith)
+returns-2 c = search (needs, arm 2)
 
 returns-3 : tie.Need-returns-3
-returns-3 c = (arm 0 (c .before .args .self) (c .match .keys3), omega arith)
+returns-3 c = search (needs, arm 0)
 
 pub takes-spec : {M : Type 1} → statement M
 takes-spec = tie.close (tie.spec returns returns-2 returns-3)

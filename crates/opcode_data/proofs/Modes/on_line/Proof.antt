@@ -1,11 +1,9 @@
 -- The count says how many modes the list has: from 3 up it is the first, then a comma and the other two.
 -- Assumes nothing.
-use mathlib.Core.List.{[], _∷_}
-use native.Mathlib.Omega.{arith}
 use borrow.Author.Needs.{needs}
 use Rattle.text.specs.Line.{adds}
-use Rattle.opcode_data.proofs.Lists.{all-three}
-use Rattle.opcode_data.proofs.Joined.{joined}
+use Rattle.opcode_data.proofs.Lists.{only-first, first-two, all-three}
+use Rattle.opcode_data.proofs.Joined.{joined-three}
 use Rattle.opcode_data.proofs.Modes.on_line.Statement.{statement}
 use Rattle.opcode_data.proofs.Modes.on_line.Tie as tie
 
@@ -41,18 +39,13 @@ unfolding adds
 returns c = rw (c .match .keys1)
 
 returns-2 : tie.Need-returns-2
-returns-2 c = rw (c .before .match .keys2) (c .operand .ensures)
+returns-2 c = search (needs, only-first)
 
 returns-3 : tie.Need-returns-3
-returns-3 c = rw (c .before .match .keys3) (c .two .ensures)
+returns-3 c = search (needs, first-two)
 
 returns-4 : tie.Need-returns-4
-returns-4 c =
-    let start = c .before .before .before .before .before .before .before .before .args in
-    let self = start .self in
-    rw (all-three self (omega arith))
-    (joined (start .line) (self .first) (self .second) (self .third ∷ []) (start .values .now)
-    (omega arith) (c .before .before .before .operand2 .ensures) (c .before .text .ensures) (c .two2 .ensures))
+returns-4 c = search (needs, all-three, joined-three)
 
 pub on-line-spec : {M : Type 1} → statement M
 on-line-spec =

@@ -1,8 +1,10 @@
 -- The count says how many modes the list has: from 3 up it is all three.
 -- Assumes nothing.
+use mathlib.Core.Path.{refl}
 use native.Mathlib.Omega.{arith}
 use borrow.Author.Needs.{needs}
-use Rattle.opcode_data.proofs.Lists.{all-three}
+use Rattle.opcode_data.specs.Format.{takes, taken}
+use Rattle.opcode_data.proofs.Lists.{sum-one, sum-two, sum-three}
 use Rattle.opcode_data.proofs.Modes.taken.Statement.{statement}
 use Rattle.opcode_data.proofs.Modes.taken.Tie as tie
 
@@ -37,13 +39,13 @@ returns : tie.Need-returns
 returns c = search needs
 
 returns-2 : tie.Need-returns-2
-returns-2 c = rw (c .before .match .keys2) (omega arith, omega arith)
+returns-2 c = (search (needs, sum-one takes taken refl (λ m ms. refl)), omega arith)
 
 returns-3 : tie.Need-returns-3
-returns-3 c = rw (c .before .before .match .keys3) (omega arith, omega arith)
+returns-3 c = (search (needs, sum-two takes taken refl (λ m ms. refl)), omega arith)
 
 returns-4 : tie.Need-returns-4
-returns-4 c = rw (all-three (c .before .before .before .before .args .self) (omega arith)) (omega arith, omega arith)
+returns-4 c = (search (needs, sum-three takes taken refl (λ m ms. refl)), omega arith)
 
 pub taken-spec : {M : Type 1} → statement M
 taken-spec =

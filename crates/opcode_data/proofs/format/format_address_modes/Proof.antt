@@ -1,32 +1,54 @@
 -- The code's tests are the definition's own, in its order. The text has at most 37 bytes, so the line, which holds 80, shows it whole.
 -- Assumes nothing.
-use Prim.Native.Nat.{_<_, _≤_}
-use mathlib.Core.Path.{refl}
+use Prim.Native.Nat.{ℕ, _<_, _≤_}
+use mathlib.Core.Path.{_≡_, refl}
+use mathlib.Core.List.{List}
 use native.Mathlib.Omega.{arith}
-use lib.ListN.{length}
+use lib.ListN.{length, getD}
 use borrow.Author.Needs.{needs}
 use borrow.Author.Tests.{lt-ltb, le-ltb}
-use Rattle.text.proofs.Laws.{gives-added}
-use Rattle.opcode_data.specs.Format.{taken, formatOf}
+use mir.Syntax.{w8}
+use mir.Val.{Fits}
+use Rattle.text.specs.declared.Line.{Line}
+use Rattle.text.specs.declared.Written.{Written}
+use Rattle.text.specs.Given.{Given, says, refused}
+use Rattle.text.specs.Line.{blank, adds, shown}
+use Rattle.text.proofs.Laws.{gives-new}
+use Rattle.opcode_data.specs.declared.Modes.{Modes}
+use Rattle.opcode_data.specs.Format.{taken, modesText, formatOf}
 use Rattle.opcode_data.specs.Lists.{listOf}
 use Rattle.opcode_data.proofs.Lists.{at-most-three}
 use Rattle.opcode_data.proofs.Lengths.{length-modes}
 use Rattle.opcode_data.proofs.format.format_address_modes.Statement.{statement}
 use Rattle.opcode_data.proofs.format.format_address_modes.Tie as tie
 
-returns : tie.Need-returns
+-- what each way out gives
+too-many : (m : Modes) (bytes buffer : List ℕ) → 3 < m .count → Given (formatOf m bytes) buffer buffer (refused 5)
 unfolding formatOf
-returns c = rw (lt-ltb 3 (c .before .before .before .before .args .modes .count) (omega arith)) (record { answer = refl; buffer = refl })
+too-many m bytes buffer h = rw (lt-ltb 3 (m .count) h) (record { answer = refl; buffer = refl })
+
+too-few : (m : Modes) (bytes buffer : List ℕ) (n : ℕ) → m .count ≤ 3 → n ≡ taken (listOf m) → length bytes < n
+    → Given (formatOf m bytes) buffer buffer (refused 4)
+unfolding formatOf
+too-few m bytes buffer n h e few =
+    rw (le-ltb 3 (m .count) h, lt-ltb (length bytes) (taken (listOf m)) (omega arith)) (record { answer = refl; buffer = refl })
+
+shown-whole : (m : Modes) (bytes before after : List ℕ) (n : ℕ) (l start : Line) (r : Written)
+    → Given (says (shown l)) before after r → l ≡ adds start (modesText (listOf m) bytes) → start ≡ blank → ((at : ℕ) → Fits w8 (getD bytes at 0))
+    → n ≡ taken (listOf m) → n ≤ length bytes → m .count ≤ 3 → Given (formatOf m bytes) before after r
+unfolding formatOf
+shown-whole m bytes before after n l start r gives line new small e enough h =
+    rw (le-ltb 3 (m .count) h, le-ltb (length bytes) (taken (listOf m)) (omega arith))
+    (gives-new l start new line (omega (arith, length-modes (listOf m) bytes (λ at. small at .fits) (at-most-three m))) gives)
+
+returns : tie.Need-returns
+returns c = search (needs, too-many)
 
 taken-requires : tie.Need-taken-requires
 taken-requires c κs = search needs
 
 returns-2 : tie.Need-returns-2
-unfolding formatOf
-returns-2 c =
-    let start = c .before .before .before .before .before .before .args in
-    let few : length (start .values .now) < taken (listOf (start .modes)) = omega arith in
-    rw (le-ltb 3 (start .modes .count) (omega arith), lt-ltb _ _ few) (record { answer = refl; buffer = refl })
+returns-2 c = search (needs, too-few)
 
 new-requires : tie.Need-new-requires
 new-requires c κs = search needs
@@ -41,17 +63,7 @@ same-length : tie.Need-same-length
 same-length c = search needs
 
 returns-3 : tie.Need-returns-3
-unfolding formatOf
-returns-3 c =
-    let start = c .before .before .before .before .before .before .before .before .before .before .before .before .args in
-    let modes = listOf (start .modes) in
-    let bytes = start .values .now in
-    let small = c .before .before .before .before .before .before .before .before .before .before .before .shared-slice-known .given in
-    let line = c .before .before .before .before .on-line .ensures in
-    let short = length-modes modes bytes (λ at. omega (arith, small at)) (at-most-three (start .modes)) in
-    let enough : taken modes ≤ length bytes = omega arith in
-    rw (le-ltb 3 (start .modes .count) (omega arith), le-ltb _ _ enough)
-    (gives-added _ (rw (c .before .before .before .before .before .new .ensures) at line) (omega arith) (c .before .before .give .ensures))
+returns-3 c = search (needs, shown-whole)
 
 pub format-address-modes-spec : {M : Type 1} → statement M
 format-address-modes-spec =

@@ -1,9 +1,7 @@
 -- The first mode's bytes stand behind those that the second takes, and a comma goes between the two texts.
 -- Assumes nothing.
-use mathlib.Core.List.{[]}
-use native.Mathlib.Omega.{arith}
 use borrow.Author.Needs.{needs}
-use Rattle.opcode_data.proofs.Joined.{joined}
+use Rattle.opcode_data.proofs.Joined.{joined-two}
 use Rattle.opcode_data.proofs.format.two.Statement.{statement}
 use Rattle.opcode_data.proofs.format.two.Tie as tie
 
@@ -23,10 +21,7 @@ operand-requires-2 : tie.Need-operand-requires-2
 operand-requires-2 c κs = search needs
 
 returns : tie.Need-returns
-returns c =
-    let start = c .before .before .before .before .before .before .args in
-    joined (start .line) (start .first) (start .second) [] (start .values .now)
-    (omega arith) (c .before .before .before .operand .ensures) (c .before .text .ensures) (c .operand2 .ensures)
+returns c = search (needs, joined-two)
 
 pub two-spec : {M : Type 1} → statement M
 two-spec =

@@ -3,6 +3,7 @@
 use Prim.Native.Nat.{ℕ}
 use mathlib.Core.Path.{_≡_, refl, sym}
 use mathlib.Core.List.{List, [], _∷_}
+use borrow.Author.Needs.{needs}
 use borrow.Author.Tests.{ne-eqb}
 use Rattle.opcode_data.specs.declared.AddressMode.the-variants.{A}
 use Rattle.opcode_data.specs.Cells.{Letter, legend, lookUp}
@@ -19,6 +20,10 @@ missed N [] letter h = (h, refl)
 missed N (l ∷ ls) letter h =
     let later = missed (N × (letter ≡ l .letter → ⊥)) ls letter h in
     (later .0 .0, rw (ne-eqb letter (l .letter) (later .0 .1)) (later .1))
+
+-- a letter that is none of the legend's
+no-line : (opcode letter : ℕ) → Missed Unit (legend opcode) letter → A ≡ lookUp (legend opcode) letter
+no-line opcode letter h = sym (missed Unit (legend opcode) letter h .1)
 
 returns : tie.Need-returns
 returns c = rw (c .match .keys1)
@@ -93,7 +98,7 @@ returns-24 : tie.Need-returns-24
 returns-24 c = rw (c .match .keys24)
 
 returns-25 : tie.Need-returns-25
-returns-25 c = sym (missed Unit (legend (c .before .args .opcode)) (c .before .args .letter) (c .match .rest) .1)
+returns-25 c = search (needs, no-line)
 
 pub mode-spec : {M : Type 1} → statement M
 mode-spec =
