@@ -1,88 +1,94 @@
--- What a `match` on an opcode, or on a part of it, says of the table.
+-- What a `match` on an opcode's low five bits says of the opcode's row: a law for each way in which an arm names them, computed over the
+-- table at its use. What a law asks of the opcode stands last, so that `search` finds it among the facts of the arm.
 -- Assumes nothing.
-use Prim.Native.Nat.{ℕ, zero, suc, _<_, _≤_}
-use mathlib.Core.Path.{_≡_, refl}
+use Prim.Native.Nat.{ℕ, _<_, _≤_}
+use mathlib.Core.Path.{_≡_}
 use mathlib.Core.Bool.{Bool, true, false, cond, not, _&&_, _||_}
 use mathlib.Core.List.{List, [], _∷_}
-use native.Mathlib.Decide.{ℕ-discrete}
 use native.Mathlib.Omega.{arith}
-use lib.Bits.{bitAnd}
-use lib.Dec.{T, eqb, leb, ltb, le→leb, lt→ltb}
-use mir.Val.{hasKey}
+use lib.Bits.{bitAnd, and-le-r}
+use lib.Dec.{T, leb, ltb, le→leb, lt→ltb}
 use mir.Facts.{yes-and}
-use types.Run.{OneOf}
-use borrow.Author.Tests.{eqb-true}
+use mir.Syntax.{w8}
+use mir.Val.{Fits, hasKey}
+use types.Run.{OneOf, hit}
 use Rattle.laws.specs.Below.{below, below-at}
-use Rattle.laws.specs.Dispatch.{when, NoneIn, hasIn, held, none-then}
+use Rattle.laws.specs.Dispatch.{when, NoneIn, hasIn, held}
 use Rattle.laws.specs.Table.{tableOf, where-same}
-use Rattle.instructions.specs.Rows.{rowOf}
 use Rattle.instructions.specs.Rows.Operation.{nop}
 use Rattle.instructions.specs.Effects.{effectOf}
 use Rattle.instructions.specs.declared.Operands.{Operands}
 use Rattle.instructions.specs.declared.Effect.{Effect}
+use Rattle.effects.proofs.Arms.{row}
 
-met : (a b : Bool) → T a → T (when a b) → T b
-met true b s t = t
-met false b s t = absurd s
+-- ---- the ways
 
--- ---- the last arm of a `match`, where each other arm has one number
+-- an arm names ks
+abbrev pub named : List ℕ → ℕ → Bool
+named ks k = hasKey ks (bitAnd k 31)
 
-abbrev put : Bool → ℕ → List (List ℕ) → List (List ℕ)
-put true k kss = (k ∷ []) ∷ kss
-put false k kss = kss
+-- what no arm names, from `least` on below `most`
+abbrev pub left : List (List ℕ) → ℕ → ℕ → ℕ → Bool
+left kss least most k = not (hasIn kss (bitAnd k 31)) && (leb least (bitAnd k 31) && ltb (bitAnd k 31) most)
 
--- the numbers below n that pass p, the highest first
-abbrev numbers : (ℕ → Bool) → ℕ → List (List ℕ)
-numbers p zero = []
-numbers p (suc n) = put (p n) n (numbers p n)
-
-none-left : (p : ℕ → Bool) (n x : ℕ) → x < n → T (p x) → NoneIn (numbers p n) x → ⊥
-none-left p zero x h t none = omega arith
-none-left p (suc n) x h t none = go (p n) refl none (λ h none. none-left p n x h t none) (ℕ-discrete x n)
+has-none : (kss : List (List ℕ)) (x : ℕ) → NoneIn kss x → T (not (hasIn kss x))
+has-none [] x none = tt
+has-none (ks ∷ kss) x none = neither (hasKey ks x) (hasIn kss x) (λ t. none .1 (hit ks x t)) (has-none kss x (none .0))
   where
-    go : (b : Bool) → p n ≡ b → NoneIn (put b n (numbers p n)) x → (x < n → NoneIn (numbers p n) x → ⊥) → Dec (x ≡ n) → ⊥
-    go true e none more (yes q) = none .1 q
-    go true e none more (no q) = more (omega arith) (none .0)
-    go false e none more (yes q) = rw (q, e) at t
-    go false e none more (no q) = more (omega arith) none
+    neither : (a b : Bool) → (T a → ⊥) → T (not b) → T (not (a || b))
+    neither true b f t = absurd (f tt)
+    neither false b f t = t
 
--- a number that passes p, and is none of the others that do, is the one left
-pub the-last : (last : ℕ) (p : ℕ → Bool) (n x : ℕ) →
-    x < n → T (p x) → NoneIn (numbers (λ k. p k && not (eqb k last)) n) x → x ≡ last
-the-last last p n x h t none = go (eqb x last) refl
+is-left : (kss : List (List ℕ)) (least most k : ℕ)
+    → NoneIn kss (bitAnd k 31) → least ≤ bitAnd k 31 → bitAnd k 31 < most → T (left kss least most k)
+is-left kss least most k none l m =
+    let x = bitAnd k 31 in
+    yes-and (not (hasIn kss x)) (leb least x && ltb x most) (has-none kss x none)
+    (yes-and (leb least x) (ltb x most) (le→leb least x l) (lt→ltb x most m))
+
+-- the low five bits are below 32: the end of the last range
+pub low-five : (k : ℕ) → bitAnd k 31 < 32
+low-five k = omega (arith, and-le-r k 31)
+
+-- ---- the effect of the row
+
+-- every opcode that passes p has the effect g
+abbrev pub AllHave : (ℕ → Bool) → (ℕ → Operands → Effect) → Type 0
+AllHave p g = tableOf 256 (λ k. cond (p k) (g k) (effectOf nop 0)) ≡ tableOf 256 (λ k. cond (p k) (row k) (effectOf nop 0))
+
+-- what has that effect has the row's
+by-row : (p : ℕ → Bool) (g : ℕ → Operands → Effect) → AllHave p g → (k : ℕ) (o : Operands) {r : Effect}
+    → Fits w8 k → T (p k) → r ≡ g k o → r ≡ row k o
+by-row p g e k o h t f = rw (← where-same 256 p (effectOf nop 0) g row e k (h .fits) t) f
+
+-- where an arm names the bits; where they are left in a range
+pub named-row : (ks : List ℕ) (g : ℕ → Operands → Effect) → AllHave (named ks) g → (k : ℕ) (o : Operands) {r : Effect}
+    → Fits w8 k → OneOf ks (bitAnd k 31) → r ≡ g k o → r ≡ row k o
+named-row ks g e k o h one = by-row (named ks) g e k o h (held ks (bitAnd k 31) one)
+
+pub left-row : (kss : List (List ℕ)) (least most : ℕ) (g : ℕ → Operands → Effect) → AllHave (left kss least most) g
+    → (k : ℕ) (o : Operands) {r : Effect}
+    → Fits w8 k → NoneIn kss (bitAnd k 31) → least ≤ bitAnd k 31 → bitAnd k 31 < most → r ≡ g k o → r ≡ row k o
+left-row kss least most g e k o h none l m = by-row (left kss least most) g e k o h (is-left kss least most k none l m)
+
+-- ---- a test that the opcode passes
+
+-- every opcode that passes p passes q
+abbrev pub AllPass : (ℕ → Bool) → (ℕ → Bool) → Type 0
+AllPass p q = T (below 256 (λ k. when (p k) (q k)))
+
+-- what passes p passes q
+by-test : (p q : ℕ → Bool) → AllPass p q → (k : ℕ) → Fits w8 k → T (p k) → T (q k)
+by-test p q e k h = met (p k) (q k) (below-at 256 (λ k. when (p k) (q k)) e k (h .fits))
   where
-    go : (b : Bool) → eqb x last ≡ b → x ≡ last
-    go true e = eqb-true x last e
-    go false e =
-        absurd (none-left (λ k. p k && not (eqb k last)) n x h (yes-and (p x) (not (eqb x last)) t (rw e tt)) none)
+    met : (a b : Bool) → T (when a b) → T a → T b
+    met true b t s = t
+    met false b t s = absurd s
 
--- ---- an arm of a `match` on an opcode's low five bits
+-- where an arm names the bits; where they are left in a range
+pub named-test : (ks : List ℕ) (q : ℕ → Bool) → AllPass (named ks) q → (k : ℕ) → Fits w8 k → OneOf ks (bitAnd k 31) → T (q k)
+named-test ks q e k h one = by-test (named ks) q e k h (held ks (bitAnd k 31) one)
 
--- the effect of an opcode's row
-abbrev pub row : ℕ → Operands → Effect
-row k = effectOf (rowOf k .operation) k
-
--- what g has for each opcode whose low five bits are one of ks; for another, nothing
-abbrev pub At : List ℕ → (ℕ → Operands → Effect) → List (Operands → Effect)
-At ks g = tableOf 256 (λ k. cond (hasKey ks (bitAnd k 31)) (g k) (effectOf nop 0))
-
--- an opcode whose low five bits are one of ks, by the test
-pub at-keys : (ks : List ℕ) (g : ℕ → Operands → Effect) →
-    At ks g ≡ At ks row → (k : ℕ) → k < 256 → T (hasKey ks (bitAnd k 31)) → g k ≡ row k
-at-keys ks g e k h t = where-same 256 (λ k. hasKey ks (bitAnd k 31)) (effectOf nop 0) g row e k h t
-
--- a fact of every opcode whose low five bits the arm names
-pub there : (ks : List ℕ) (p : ℕ → Bool) → T (below 256 (λ k. when (hasKey ks (bitAnd k 31)) (p k))) → (k : ℕ) → k < 256 → OneOf ks (bitAnd k 31) → T (p k)
-there ks p t k h one =
-    met (hasKey ks (bitAnd k 31)) (p k) (held ks (bitAnd k 31) one) (below-at 256 (λ k. when (hasKey ks (bitAnd k 31)) (p k)) t k h)
-
--- a fact of every opcode whose low five bits are none of some keys, and lie from `least` on below `most`
-abbrev pub Between : List (List ℕ) → ℕ → ℕ → (ℕ → Bool) → Type 0
-Between kss least most p = T (below 256 (λ k. hasIn kss (bitAnd k 31) || when (leb least (bitAnd k 31) && ltb (bitAnd k 31) most) (p k)))
-
-pub between : (kss : List (List ℕ)) (least most : ℕ) (p : ℕ → Bool) → Between kss least most p →
-    (k : ℕ) → k < 256 → NoneIn kss (bitAnd k 31) → least ≤ bitAnd k 31 → bitAnd k 31 < most → T (p k)
-between kss least most p t k h none l m =
-    met (leb least (bitAnd k 31) && ltb (bitAnd k 31) most) (p k)
-    (yes-and (leb least (bitAnd k 31)) (ltb (bitAnd k 31) most) (le→leb _ _ l) (lt→ltb _ _ m))
-    (none-then 256 (λ k. when (leb least (bitAnd k 31) && ltb (bitAnd k 31) most) (p k)) (λ k. bitAnd k 31) kss k h none t)
+pub left-test : (kss : List (List ℕ)) (least most : ℕ) (q : ℕ → Bool) → AllPass (left kss least most) q
+    → (k : ℕ) → Fits w8 k → NoneIn kss (bitAnd k 31) → least ≤ bitAnd k 31 → bitAnd k 31 < most → T (q k)
+left-test kss least most q e k h none l m = by-test (left kss least most) q e k h (is-left kss least most k none l m)

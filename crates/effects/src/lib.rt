@@ -1,13 +1,13 @@
 // What an instruction makes of its operands, by its opcode.
 mod bits;
-mod column_0;
-mod column_8;
-mod column_a;
-mod column_d;
-mod column_e;
-mod column_f;
+mod bits_and_words;
+mod compares_and_pops;
 mod families;
+mod flags_and_branches;
+mod immediates_and_shifts;
+mod jumps_and_calls;
 mod kinds;
+mod pushes_and_moves;
 
 ghost use mathlib.Core.Path.{_≡_};
 ghost use Rattle.instructions.specs.Rows.{rowOf};
@@ -33,12 +33,12 @@ pub fn effect_of(opcode: u8, o: Operands) -> Effect
         // one arm with those above would cost a step six instructions more (docs/SPEED.md)
         0x0C => families::shifts(opcode / 32, o),
         // in the other columns, by the opcode's low digit, each opcode has an instruction of its own
-        0x00 | 0x10 => column_0::column_0(opcode, o),
-        0x08 | 0x1C => column_8::column_8(opcode, o),
-        0x0A | 0x1A => column_a::column_a(opcode, o),
-        0x0D | 0x1D => column_d::column_d(opcode, o),
-        0x0E | 0x1E => column_e::column_e(opcode, o),
-        _ => column_f::column_f(opcode, o),
+        0x00 | 0x10 => flags_and_branches::flags_and_branches(opcode, o),
+        0x08 | 0x1C => immediates_and_shifts::immediates_and_shifts(opcode, o),
+        0x0A | 0x1A => bits_and_words::bits_and_words(opcode, o),
+        0x0D | 0x1D => pushes_and_moves::pushes_and_moves(opcode, o),
+        0x0E | 0x1E => compares_and_pops::compares_and_pops(opcode, o),
+        _ => jumps_and_calls::jumps_and_calls(opcode, o),
     }
 }
 

@@ -2,6 +2,7 @@
 -- Assumes nothing.
 use borrow.Author.Needs.{needs}
 use Rattle.instructions.specs.Effects.{effectOf}
+use Rattle.effects.proofs.Made.{made-branch, bits}
 use Rattle.effects.proofs.bbc.Statement.{statement}
 use Rattle.effects.proofs.bbc.Tie as tie
 
@@ -16,7 +17,7 @@ branch-if-requires c κs = search needs
 
 returns : tie.Need-returns
 unfolding effectOf
-returns c = rw (c .branch-if .ensures, c .before .has-bit .ensures, c .before .before .bit-in .ensures)
+returns c = search (made-branch, bits)
 
 pub bbc-spec : {M : Type 1} → statement M
 bbc-spec = tie.close (tie.spec bit-in-requires has-bit-requires branch-if-requires returns)

@@ -10,7 +10,7 @@ storing-requires c κs = search needs
 
 returns : tie.Need-returns
 unfolding effectOf
-returns c = rw (c .storing .ensures)
+returns c = search needs
 
 pub call-spec : {M : Type 1} → statement M
 call-spec = tie.close (tie.spec storing-requires returns)
