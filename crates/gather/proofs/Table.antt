@@ -1,4 +1,5 @@
--- What the table says of the modes in a column, which is what an opcode's low five bits name. Each law is computed over the table at its use.
+-- What the code of a column has read is what the table says of its rows: a law for each way in which an arm names opcodes, computed over
+-- the table at its use. What a law asks of the opcode stands last, so that `search` finds it among the facts of the arm.
 -- Assumes nothing.
 use Prim.Native.Nat.{ℕ, _<_, _≤_}
 use mathlib.Core.Path.{_≡_}
@@ -31,6 +32,11 @@ AllHave p m = tableOf 256 (λ k. cond (p k) (rowOf k .mode) implied) ≡ tableOf
 has-mode : (p : ℕ → Bool) (m : ℕ → Mode) → AllHave p m → {k : ℕ} → Fits w8 k → T (p k) → rowOf k .mode ≡ m k
 has-mode p m e {k} h t = where-same 256 p implied (λ k. rowOf k .mode) m e k (h .fits) t
 
+-- what was read by a row's mode was read by the row
+by-mode : {m : Mode} (k : ℕ) (cpu : Processor) {w : World} {o : Outcome World Operands}
+    → rowOf k .mode ≡ m → Does (gatherOf m k cpu) w o → Does (gatherOf (rowOf k .mode) k cpu) w o
+by-mode k cpu e does = rw e does
+
 -- an opcode of a column
 abbrev pub inColumn : ℕ → ℕ → Bool
 inColumn c k = eqb (bitAnd k 31) c
@@ -38,59 +44,79 @@ inColumn c k = eqb (bitAnd k 31) c
 within : (c k : ℕ) → bitAnd k 31 ≡ c → T (inColumn c k)
 within c k e = rw e (eqb-refl c)
 
--- a column whose rows have one mode
-pub column : (c : ℕ) (m : Mode) → AllHave (inColumn c) (λ k. m) → {k : ℕ} → Fits w8 k → bitAnd k 31 ≡ c → rowOf k .mode ≡ m
-column c m e {k} h here = has-mode (inColumn c) (λ k. m) e h (within c k here)
-
--- opcodes named in a column's arm
-pub opcodes : (js : List ℕ) (m : Mode) → AllHave (hasKey js) (λ k. m) → {k : ℕ} → Fits w8 k → OneOf js k → rowOf k .mode ≡ m
-opcodes js m e {k} h one = has-mode (hasKey js) (λ k. m) e h (held js k one)
-
--- the others of the column
-pub others : (c : ℕ) (kss : List (List ℕ)) (m : Mode) → AllHave (λ k. inColumn c k && not (hasIn kss k)) (λ k. m) →
-    T (below 256 (λ k. hasIn kss k || not (hasIn kss k))) →
-    {k : ℕ} → Fits w8 k → bitAnd k 31 ≡ c → NoneIn kss k → rowOf k .mode ≡ m
-others c kss m e t {k} h here none =
-    has-mode (λ k. inColumn c k && not (hasIn kss k)) (λ k. m) e h
-    (yes-and (inColumn c k) (not (hasIn kss k)) (within c k here) (none-then 256 (λ k. not (hasIn kss k)) (λ k. k) kss k (h .fits) none t))
-
 -- the column that no arm names
 pub left-over : (columns : List (List ℕ)) (c : ℕ) → T (below 256 (λ k. hasIn columns (bitAnd k 31) || inColumn c k)) →
     {k : ℕ} → Fits w8 k → NoneIn columns (bitAnd k 31) → bitAnd k 31 ≡ c
 left-over columns c t {k} h none = eqb→eq _ _ (none-then 256 (inColumn c) (λ k. bitAnd k 31) columns k (h .fits) none t)
 
--- the rows of a column above those of MOV
-pub first-six : (c : ℕ) (m : Mode) → AllHave (λ k. inColumn c k && ltb k 192) (λ k. m) →
-    {k : ℕ} → Fits w8 k → bitAnd k 31 ≡ c → k < 192 → rowOf k .mode ≡ m
-first-six c m e {k} h here less =
-    has-mode (λ k. inColumn c k && ltb k 192) (λ k. m) e h (yes-and (inColumn c k) (ltb k 192) (within c k here) (rw (lt-ltb k 192 less) tt))
-
--- ---- columns with a row of stores: there the mode finds an address alone, in every other row the byte at it
-
--- the two modes, by whether the row is that of the stores
-by-row : (b : Bool) (f : Mode → Access Operands) (p : Access Addressed) (to from : Mode) → f to ≡ then p target → f from ≡ then p loaded →
-    f (cond b to from) ≡ then p (λ found. cond b (target found) (loaded found))
-by-row true f p to from e g = e
-by-row false f p to from e g = g
-
--- opcodes that pass q
-by-table : (q : ℕ → Bool) (to from : Mode) → AllHave q (λ k. cond (storeRow k) to from) → {k : ℕ} → Fits w8 k → T (q k) →
-    (cpu : Processor) (p : Access Addressed) → gatherOf to k cpu ≡ then p target → gatherOf from k cpu ≡ then p loaded →
-    {w : World} {o : Outcome World Operands} → Does (then p (placed k)) w o → Does (gatherOf (rowOf k .mode) k cpu) w o
-by-table q to from e {k} h t cpu p s l does =
-    rw (has-mode q (λ k. cond (storeRow k) to from) e h t, by-row (storeRow k) (λ m. gatherOf m k cpu) p to from s l) does
+-- ---- rows that have one mode
 
 -- a whole column
-pub stores : (c : ℕ) (to from : Mode) → AllHave (inColumn c) (λ k. cond (storeRow k) to from) → {k : ℕ} → Fits w8 k → bitAnd k 31 ≡ c →
-    (cpu : Processor) (p : Access Addressed) → gatherOf to k cpu ≡ then p target → gatherOf from k cpu ≡ then p loaded →
-    {w : World} {o : Outcome World Operands} → Does (then p (placed k)) w o → Does (gatherOf (rowOf k .mode) k cpu) w o
-stores c to from e {k} h here = by-table (inColumn c) to from e h (within c k here)
+pub column : (c : ℕ) (m : Mode) → AllHave (inColumn c) (λ k. m)
+    → (k : ℕ) (cpu : Processor) {w : World} {o : Outcome World Operands} → Fits w8 k → bitAnd k 31 ≡ c
+    → Does (gatherOf m k cpu) w o → Does (gatherOf (rowOf k .mode) k cpu) w o
+column c m e k cpu h here = by-mode k cpu (has-mode (inColumn c) (λ k. m) e h (within c k here))
+
+-- opcodes named in a column's arm
+pub opcodes : (js : List ℕ) (m : Mode) → AllHave (hasKey js) (λ k. m)
+    → (k : ℕ) (cpu : Processor) {w : World} {o : Outcome World Operands} → Fits w8 k → OneOf js k
+    → Does (gatherOf m k cpu) w o → Does (gatherOf (rowOf k .mode) k cpu) w o
+opcodes js m e k cpu h one = by-mode k cpu (has-mode (hasKey js) (λ k. m) e h (held js k one))
+
+-- the others of the column
+pub others : (c : ℕ) (kss : List (List ℕ)) (m : Mode) → AllHave (λ k. inColumn c k && not (hasIn kss k)) (λ k. m)
+    → T (below 256 (λ k. hasIn kss k || not (hasIn kss k)))
+    → (k : ℕ) (cpu : Processor) {w : World} {o : Outcome World Operands} → Fits w8 k → bitAnd k 31 ≡ c → NoneIn kss k
+    → Does (gatherOf m k cpu) w o → Does (gatherOf (rowOf k .mode) k cpu) w o
+others c kss m e t k cpu h here none =
+    by-mode k cpu
+    (has-mode (λ k. inColumn c k && not (hasIn kss k)) (λ k. m) e h
+    (yes-and (inColumn c k) (not (hasIn kss k)) (within c k here) (none-then 256 (λ k. not (hasIn kss k)) (λ k. k) kss k (h .fits) none t)))
+
+-- the rows of a column above those of MOV
+pub first-six : (c : ℕ) (m : Mode) → AllHave (λ k. inColumn c k && ltb k 192) (λ k. m)
+    → (k : ℕ) (cpu : Processor) {w : World} {o : Outcome World Operands} → Fits w8 k → bitAnd k 31 ≡ c → k < 192
+    → Does (gatherOf m k cpu) w o → Does (gatherOf (rowOf k .mode) k cpu) w o
+first-six c m e k cpu h here less =
+    by-mode k cpu
+    (has-mode (λ k. inColumn c k && ltb k 192) (λ k. m) e h
+    (yes-and (inColumn c k) (ltb k 192) (within c k here) (rw (lt-ltb k 192 less) tt)))
+
+-- ---- rows of which one stores: there the mode finds an address alone, in every other row the byte at it
+
+-- a way to find an address, and its two modes
+pub record Place : Type 0 where
+  pub find : Processor → Access Addressed
+  pub to : Mode
+  pub from : Mode
+  pub stores : (k : ℕ) (cpu : Processor) → gatherOf to k cpu ≡ then (find cpu) target
+  pub loads : (k : ℕ) (cpu : Processor) → gatherOf from k cpu ≡ then (find cpu) loaded
+
+-- the mode that a row of it has
+abbrev pub modeOf : Place → ℕ → Mode
+modeOf place k = cond (storeRow k) (place .to) (place .from)
+
+by-row : (place : Place) (b : Bool) (k : ℕ) (cpu : Processor)
+    → gatherOf (cond b (place .to) (place .from)) k cpu ≡ then (place .find cpu) (λ found. cond b (target found) (loaded found))
+by-row place true k cpu = place .stores k cpu
+by-row place false k cpu = place .loads k cpu
+
+-- opcodes that pass q
+by-table : (q : ℕ → Bool) (place : Place) → AllHave q (modeOf place)
+    → (k : ℕ) (cpu : Processor) {w : World} {o : Outcome World Operands} → Fits w8 k → T (q k)
+    → Does (then (place .find cpu) (placed k)) w o → Does (gatherOf (rowOf k .mode) k cpu) w o
+by-table q place e k cpu h t does = by-mode k cpu (has-mode q (modeOf place) e h t) (rw (by-row place (storeRow k) k cpu) does)
+
+-- a whole column
+pub places : (c : ℕ) (place : Place) → AllHave (inColumn c) (modeOf place)
+    → (k : ℕ) (cpu : Processor) {w : World} {o : Outcome World Operands} → Fits w8 k → bitAnd k 31 ≡ c
+    → Does (then (place .find cpu) (placed k)) w o → Does (gatherOf (rowOf k .mode) k cpu) w o
+places c place e k cpu h here = by-table (inColumn c) place e k cpu h (within c k here)
 
 -- the last two rows of a column, a store and a load
-pub last-two : (c : ℕ) (to from : Mode) → AllHave (λ k. inColumn c k && not (ltb k 192)) (λ k. cond (storeRow k) to from) →
-    {k : ℕ} → Fits w8 k → bitAnd k 31 ≡ c → 192 ≤ k →
-    (cpu : Processor) (p : Access Addressed) → gatherOf to k cpu ≡ then p target → gatherOf from k cpu ≡ then p loaded →
-    {w : World} {o : Outcome World Operands} → Does (then p (placed k)) w o → Does (gatherOf (rowOf k .mode) k cpu) w o
-last-two c to from e {k} h here more =
-    by-table (λ k. inColumn c k && not (ltb k 192)) to from e h
+pub last-two : (c : ℕ) (place : Place) → AllHave (λ k. inColumn c k && not (ltb k 192)) (modeOf place)
+    → (k : ℕ) (cpu : Processor) {w : World} {o : Outcome World Operands} → Fits w8 k → bitAnd k 31 ≡ c → 192 ≤ k
+    → Does (then (place .find cpu) (placed k)) w o → Does (gatherOf (rowOf k .mode) k cpu) w o
+last-two c place e k cpu h here more =
+    by-table (λ k. inColumn c k && not (ltb k 192)) place e k cpu h
     (yes-and (inColumn c k) (not (ltb k 192)) (within c k here) (rw (le-ltb k 192 more) tt))

@@ -5,3 +5,4 @@ pub mod Bounds
 pub mod Made
 pub mod Inside
 pub mod Order
+pub mod Same

@@ -4,13 +4,13 @@ use Prim.Native.Nat.{ℕ}
 use mathlib.Core.Path.{refl}
 use mathlib.Core.List.{List, [], _∷_}
 use Rattle.memory.specs.Access.{then}
-use Rattle.memory.specs.Access.Access.{done}
-use Rattle.memory.proofs.Laws.{ends}
+use Rattle.memory.proofs.Laws.{accesses}
 use Rattle.instructions.specs.Rows.{rows}
-use Rattle.instructions.specs.Rows.Mode.{absolute, absoluteX, absoluteY, atX, direct, directX, immediate, implied, memoryBit, pointerX, pointerY, tableVector, toAbsolute, toAbsoluteX, toAbsoluteY, toDirect, toDirectX, toPointerX, toPointerY, toX}
+use Rattle.instructions.specs.Rows.Mode.{direct, immediate, implied, memoryBit, tableVector}
 use Rattle.instructions.specs.Gather.{gatherOf}
-use Rattle.gather.proofs.Table.{column, stores, left-over}
+use Rattle.gather.proofs.Table.{column, left-over, places}
 use borrow.Author.Needs.{needs}
+use Rattle.gather.proofs.Found.{inDirect, inDirectX, atAbsolute, atAbsoluteX, atAbsoluteY, atPointerX, atPointerY, atRegisterX, placed-by}
 use Rattle.gather.proofs.gather.Statement.{statement}
 use Rattle.gather.proofs.gather.Tie as tie
 
@@ -115,7 +115,7 @@ implied-requires-4 : tie.Need-implied-requires-4
 implied-requires-4 c κs = search needs
 
 column-1f-requires : tie.Need-column-1f-requires
-column-1f-requires c κs = (search needs, left-over columns 31 tt (c .before .before .before .before .before .fits .op) (c .before .match .rest))
+column-1f-requires c κs = search (needs, left-over columns 31 tt)
 
 same-length : tie.Need-same-length
 same-length c = search needs
@@ -167,152 +167,152 @@ returns-8 c = search needs
 
 returns-9 : tie.Need-returns-9
 unfolding rows gatherOf
-returns-9 c = rw (column 0 implied refl (c .before .before .before .before .before .fits .op) (c .before .match .keys9), c .implied .ensures) ends
+returns-9 c = search (accesses, column 0 implied refl)
 
 same-length-9 : tie.Need-same-length-9
 same-length-9 c = search needs
 
 returns-10 : tie.Need-returns-10
 unfolding rows gatherOf
-returns-10 c = rw (column 1 tableVector refl (c .before .before .before .before .before .before .before .before .fits .op) (c .before .before .before .before .match .keys10)) (c .before .before .table-vector .ensures)
+returns-10 c = search (accesses, column 1 tableVector refl)
 
 same-length-10 : tie.Need-same-length-10
 same-length-10 c = search needs
 
 returns-11 : tie.Need-returns-11
 unfolding rows gatherOf
-returns-11 c = rw (column 2 direct refl (c .before .before .before .before .before .before .before .before .fits .op) (c .before .before .before .before .match .keys11)) (c .before .before .direct .ensures)
+returns-11 c = search (accesses, column 2 direct refl)
 
 same-length-11 : tie.Need-same-length-11
 same-length-11 c = search needs
 
 returns-12 : tie.Need-returns-12
 unfolding rows gatherOf
-returns-12 c = rw (column 3 direct refl (c .before .before .before .before .before .before .before .before .fits .op) (c .before .before .before .before .match .keys12)) (c .before .before .direct2 .ensures)
+returns-12 c = search (accesses, column 3 direct refl)
 
 same-length-12 : tie.Need-same-length-12
 same-length-12 c = search needs
 
 returns-13 : tie.Need-returns-13
-unfolding rows gatherOf
-returns-13 c = stores 4 toDirect direct refl (c .before .before .before .before .before .before .before .before .fits .op) (c .before .before .before .before .match .keys13) _ _ refl refl (c .before .before .d .ensures)
+unfolding rows inDirect
+returns-13 c = search (accesses, places 4 inDirect refl)
 
 same-length-13 : tie.Need-same-length-13
 same-length-13 c = search needs
 
 returns-14 : tie.Need-returns-14
-unfolding rows gatherOf
-returns-14 c = stores 5 toAbsolute absolute refl (c .before .before .before .before .before .before .before .before .fits .op) (c .before .before .before .before .match .keys14) _ _ refl refl (c .before .before .abs .ensures)
+unfolding rows atAbsolute
+returns-14 c = search (accesses, places 5 atAbsolute refl)
 
 same-length-14 : tie.Need-same-length-14
 same-length-14 c = search needs
 
 returns-15 : tie.Need-returns-15
-unfolding rows gatherOf then
-returns-15 c = stores 6 toX atX refl (c .before .before .before .before .before .before .before .before .before .fits .op) (c .before .before .before .before .before .match .keys15) _ (done _) refl refl (rw (c .before .before .before .before .ix .ensures) at (c .before .before .place .ensures))
+unfolding rows atRegisterX then
+returns-15 c = search (accesses, places 6 atRegisterX refl, placed-by)
 
 same-length-15 : tie.Need-same-length-15
 same-length-15 c = search needs
 
 returns-16 : tie.Need-returns-16
-unfolding rows gatherOf
-returns-16 c = stores 7 toPointerX pointerX refl (c .before .before .before .before .before .before .before .before .fits .op) (c .before .before .before .before .match .keys16) _ _ refl refl (c .before .before .idx .ensures)
+unfolding rows atPointerX
+returns-16 c = search (accesses, places 7 atPointerX refl)
 
 same-length-16 : tie.Need-same-length-16
 same-length-16 c = search needs
 
 returns-17 : tie.Need-returns-17
 unfolding rows gatherOf
-returns-17 c = rw (column 8 immediate refl (c .before .before .before .before .before .before .before .before .fits .op) (c .before .before .before .before .match .keys17)) (c .before .before .immediate .ensures)
+returns-17 c = search (accesses, column 8 immediate refl)
 
 same-length-17 : tie.Need-same-length-17
 same-length-17 c = search needs
 
 returns-18 : tie.Need-returns-18
 unfolding rows gatherOf
-returns-18 c = rw (column 10 memoryBit refl (c .before .before .before .before .before .before .before .before .fits .op) (c .before .before .before .before .match .keys18)) (c .before .before .memory-bit .ensures)
+returns-18 c = search (accesses, column 10 memoryBit refl)
 
 same-length-18 : tie.Need-same-length-18
 same-length-18 c = search needs
 
 returns-19 : tie.Need-returns-19
-unfolding rows gatherOf
-returns-19 c = stores 11 toDirect direct refl (c .before .before .before .before .before .before .before .before .fits .op) (c .before .before .before .before .match .keys19) _ _ refl refl (c .before .before .d2 .ensures)
+unfolding rows inDirect
+returns-19 c = search (accesses, places 11 inDirect refl)
 
 same-length-19 : tie.Need-same-length-19
 same-length-19 c = search needs
 
 returns-20 : tie.Need-returns-20
-unfolding rows gatherOf
-returns-20 c = stores 12 toAbsolute absolute refl (c .before .before .before .before .before .before .before .before .fits .op) (c .before .before .before .before .match .keys20) _ _ refl refl (c .before .before .abs2 .ensures)
+unfolding rows atAbsolute
+returns-20 c = search (accesses, places 12 atAbsolute refl)
 
 returns-21 : tie.Need-returns-21
 unfolding rows gatherOf
-returns-21 c = rw (column 16 implied refl (c .before .before .before .before .before .fits .op) (c .before .match .keys21), c .implied2 .ensures) ends
+returns-21 c = search (accesses, column 16 implied refl)
 
 same-length-20 : tie.Need-same-length-20
 same-length-20 c = search needs
 
 returns-22 : tie.Need-returns-22
 unfolding rows gatherOf
-returns-22 c = rw (column 17 tableVector refl (c .before .before .before .before .before .before .before .before .fits .op) (c .before .before .before .before .match .keys22)) (c .before .before .table-vector2 .ensures)
+returns-22 c = search (accesses, column 17 tableVector refl)
 
 same-length-21 : tie.Need-same-length-21
 same-length-21 c = search needs
 
 returns-23 : tie.Need-returns-23
 unfolding rows gatherOf
-returns-23 c = rw (column 18 direct refl (c .before .before .before .before .before .before .before .before .fits .op) (c .before .before .before .before .match .keys23)) (c .before .before .direct3 .ensures)
+returns-23 c = search (accesses, column 18 direct refl)
 
 same-length-22 : tie.Need-same-length-22
 same-length-22 c = search needs
 
 returns-24 : tie.Need-returns-24
 unfolding rows gatherOf
-returns-24 c = rw (column 19 direct refl (c .before .before .before .before .before .before .before .before .fits .op) (c .before .before .before .before .match .keys24)) (c .before .before .direct4 .ensures)
+returns-24 c = search (accesses, column 19 direct refl)
 
 same-length-23 : tie.Need-same-length-23
 same-length-23 c = search needs
 
 returns-25 : tie.Need-returns-25
-unfolding rows gatherOf
-returns-25 c = stores 20 toDirectX directX refl (c .before .before .before .before .before .before .before .before .fits .op) (c .before .before .before .before .match .keys25) _ _ refl refl (c .before .before .dx .ensures)
+unfolding rows inDirectX
+returns-25 c = search (accesses, places 20 inDirectX refl)
 
 same-length-24 : tie.Need-same-length-24
 same-length-24 c = search needs
 
 returns-26 : tie.Need-returns-26
-unfolding rows gatherOf
-returns-26 c = stores 21 toAbsoluteX absoluteX refl (c .before .before .before .before .before .before .before .before .fits .op) (c .before .before .before .before .match .keys26) _ _ refl refl (c .before .before .absx .ensures)
+unfolding rows atAbsoluteX
+returns-26 c = search (accesses, places 21 atAbsoluteX refl)
 
 same-length-25 : tie.Need-same-length-25
 same-length-25 c = search needs
 
 returns-27 : tie.Need-returns-27
-unfolding rows gatherOf
-returns-27 c = stores 22 toAbsoluteY absoluteY refl (c .before .before .before .before .before .before .before .before .fits .op) (c .before .before .before .before .match .keys27) _ _ refl refl (c .before .before .absy .ensures)
+unfolding rows atAbsoluteY
+returns-27 c = search (accesses, places 22 atAbsoluteY refl)
 
 same-length-26 : tie.Need-same-length-26
 same-length-26 c = search needs
 
 returns-28 : tie.Need-returns-28
-unfolding rows gatherOf
-returns-28 c = stores 23 toPointerY pointerY refl (c .before .before .before .before .before .before .before .before .fits .op) (c .before .before .before .before .match .keys28) _ _ refl refl (c .before .before .idy .ensures)
+unfolding rows atPointerY
+returns-28 c = search (accesses, places 23 atPointerY refl)
 
 same-length-27 : tie.Need-same-length-27
 same-length-27 c = search needs
 
 returns-29 : tie.Need-returns-29
-unfolding rows gatherOf
-returns-29 c = stores 27 toDirectX directX refl (c .before .before .before .before .before .before .before .before .fits .op) (c .before .before .before .before .match .keys29) _ _ refl refl (c .before .before .dx2 .ensures)
+unfolding rows inDirectX
+returns-29 c = search (accesses, places 27 inDirectX refl)
 
 returns-30 : tie.Need-returns-30
 unfolding rows gatherOf
-returns-30 c = rw (column 28 implied refl (c .before .before .before .before .before .fits .op) (c .before .match .keys30), c .implied3 .ensures) ends
+returns-30 c = search (accesses, column 28 implied refl)
 
 returns-31 : tie.Need-returns-31
 unfolding rows gatherOf
-returns-31 c = rw (column 29 implied refl (c .before .before .before .before .before .fits .op) (c .before .match .keys31), c .implied4 .ensures) ends
+returns-31 c = search (accesses, column 29 implied refl)
 
 same-length-28 : tie.Need-same-length-28
 same-length-28 c = search needs

@@ -1,8 +1,8 @@
 -- Two reads, one after the other, the second at the next address.
 -- Assumes nothing.
 use borrow.Author.Needs.{needs}
+use Rattle.memory.proofs.Laws.{accesses}
 use Rattle.memory.specs.Words.{readWord}
-use Rattle.memory.proofs.Laws.{read-then, ends}
 use Rattle.memory.proofs.read_u16.Statement.{statement}
 use Rattle.memory.proofs.read_u16.Tie as tie
 
@@ -32,7 +32,7 @@ same-length c = search needs
 
 returns : tie.Need-returns
 unfolding readWord
-returns c = read-then (c .before .before .before .before .before .before .before .read .ensures) (read-then (rw (← c .before .before .before .wrapping-add-u16 .ensures) (c .before .before .read2 .ensures)) ends)
+returns c = search accesses
 
 pub read-u16-spec : {M : Type 1} → statement M
 read-u16-spec =

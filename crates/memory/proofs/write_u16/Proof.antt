@@ -1,8 +1,8 @@
 -- Two stores, one after the other, the second at the next address.
 -- Assumes nothing.
 use borrow.Author.Needs.{needs}
+use Rattle.memory.proofs.Laws.{accesses}
 use Rattle.memory.specs.Words.{writeWord}
-use Rattle.memory.proofs.Laws.{put-then, ends}
 use Rattle.memory.proofs.write_u16.Statement.{statement}
 use Rattle.memory.proofs.write_u16.Tie as tie
 
@@ -29,7 +29,7 @@ same-length-2 c = search needs
 
 returns : tie.Need-returns
 unfolding writeWord
-returns c = put-then (c .before .before .before .before .before .before .before .before .before .before .before .before .store .ensures) (put-then (rw (← c .before .before .before .before .before .wrapping-add-u16 .ensures) (c .before .before .before .before .store2 .ensures)) ends)
+returns c = search accesses
 
 pub write-u16-spec : {M : Type 1} → statement M
 write-u16-spec =

@@ -63,10 +63,7 @@ same-length : tie.Need-same-length
 same-length c = search needs
 
 returns : tie.Need-returns
-returns c =
-    let input = c .before .before .before .before .before .before .before .before .before .before .args .input .now in
-    placed input (c .before .before .before .before .before .before .before .before .before .before .pre) (c .before .before .before .before .before .before .before .budget .ensures) (c .before .before .before .before .registers .ensures) (part-to-end input 11)
-    (c .before .before .run-on .ensures)
+returns c = search (needs, placed, part-to-end)
 
 pub accepted-spec : {M : Type 1} → statement M
 accepted-spec =

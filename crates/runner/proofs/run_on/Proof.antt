@@ -60,11 +60,7 @@ same-length : tie.Need-same-length
 same-length c = search needs
 
 returns : tie.Need-returns
-returns c =
-    let start = c .before .before .before .before .before .before .before .before .before .before .before .before .before .before .before .before .args in
-    told {o = played (start .budget) (start .cpu) (start .memory .now)}
-    (c .before .before .before .before .before .before .before .before .before .before .before .run .ensures) (search needs) (search needs)
-    (c .before .before .before .before .count .ensures) (c .before .before .count2 .ensures) (c .before .opening .ensures) (c .closing .ensures)
+returns c = search (needs, told)
 
 pub run-on-spec : {M : Type 1} → statement M
 run-on-spec =

@@ -39,8 +39,7 @@ new-requires-2 : tie.Need-new-requires-2
 new-requires-2 c κs = search needs
 
 returns : tie.Need-returns
-returns c =
-    refuses (c .before .before .before .before .before .before .args .input .now) (c .before .before .before .before .if1 .taken) (c .before .before .before .new .ensures) (c .before .text .ensures) (c .new2 .ensures)
+returns c = search (needs, refuses)
 
 accepted-requires : tie.Need-accepted-requires
 accepted-requires c κs = search needs
@@ -49,7 +48,7 @@ same-length : tie.Need-same-length
 same-length c = search needs
 
 returns-2 : tie.Need-returns-2
-returns-2 c = accepts (c .before .before .before .before .before .before .args .input .now) (c .before .before .before .before .if1 .left) (c .before .before .accepted .ensures)
+returns-2 c = search (needs, accepts)
 
 pub session-spec : {M : Type 1} → statement M
 session-spec =

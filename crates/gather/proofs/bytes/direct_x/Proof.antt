@@ -1,8 +1,8 @@
 -- The mode finds the address, and `load` reads there.
 -- Assumes nothing.
-use Rattle.memory.proofs.Laws.{chain}
 use Rattle.instructions.specs.Gather.{gatherOf}
 use borrow.Author.Needs.{needs}
+use Rattle.memory.proofs.Laws.{accesses}
 use Rattle.gather.proofs.bytes.direct_x.Statement.{statement}
 use Rattle.gather.proofs.bytes.direct_x.Tie as tie
 
@@ -17,7 +17,7 @@ same-length c = search needs
 
 returns : tie.Need-returns
 unfolding gatherOf
-returns c = chain _ (c .before .before .before .before .before .before .dx .ensures) (c .before .before .load .ensures)
+returns c = search accesses
 
 pub direct-x-spec : {M : Type 1} → statement M
 direct-x-spec = tie.close (tie.spec dx-requires load-requires same-length returns)

@@ -1,7 +1,7 @@
 -- One fetch, and its byte.
 -- Assumes nothing.
 use borrow.Author.Needs.{needs}
-use Rattle.memory.proofs.Laws.{chain, ends}
+use Rattle.memory.proofs.Laws.{accesses}
 use Rattle.instructions.specs.Gather.{gatherOf}
 use Rattle.gather.proofs.bytes.immediate.Statement.{statement}
 use Rattle.gather.proofs.bytes.immediate.Tie as tie
@@ -17,7 +17,7 @@ same-length c = search needs
 
 returns : tie.Need-returns
 unfolding gatherOf
-returns c = chain _ (c .before .before .before .fetch-u8 .ensures) (rw (c .byte-only .ensures) ends)
+returns c = search accesses
 
 pub immediate-spec : {M : Type 1} → statement M
 immediate-spec = tie.close (tie.spec fetch-u8-requires byte-only-requires same-length returns)

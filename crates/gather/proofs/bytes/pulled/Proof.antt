@@ -1,7 +1,7 @@
 -- One pull, and its byte.
 -- Assumes nothing.
 use borrow.Author.Needs.{needs}
-use Rattle.memory.proofs.Laws.{chain, ends}
+use Rattle.memory.proofs.Laws.{accesses}
 use Rattle.instructions.specs.Gather.{gatherOf}
 use Rattle.gather.proofs.bytes.pulled.Statement.{statement}
 use Rattle.gather.proofs.bytes.pulled.Tie as tie
@@ -17,7 +17,7 @@ same-length c = search needs
 
 returns : tie.Need-returns
 unfolding gatherOf
-returns c = chain _ (c .before .before .before .pull-from-stack-u8 .ensures) (rw (c .byte-only .ensures) ends)
+returns c = search accesses
 
 pub pulled-spec : {M : Type 1} → statement M
 pulled-spec =

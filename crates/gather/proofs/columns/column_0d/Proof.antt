@@ -2,7 +2,7 @@
 -- Assumes nothing.
 use mathlib.Core.Path.{refl}
 use mathlib.Core.List.{[], _∷_}
-use Rattle.memory.proofs.Laws.{ends}
+use Rattle.memory.proofs.Laws.{accesses}
 use Rattle.instructions.specs.Rows.{rows}
 use Rattle.instructions.specs.Rows.Mode.{immediate, implied}
 use Rattle.instructions.specs.Gather.{gatherOf}
@@ -22,11 +22,11 @@ same-length c = search needs
 
 returns : tie.Need-returns
 unfolding rows gatherOf
-returns c = rw (opcodes (141 ∷ 173 ∷ 205 ∷ []) immediate refl (c .before .before .before .before .before .before .before .before .fits .op) (c .before .before .before .before .match .keys1)) (c .before .before .immediate .ensures)
+returns c = search (accesses, opcodes (141 ∷ 173 ∷ 205 ∷ []) immediate refl)
 
 returns-2 : tie.Need-returns-2
 unfolding rows gatherOf
-returns-2 c = rw (others 13 ((141 ∷ 173 ∷ 205 ∷ []) ∷ []) implied refl tt (c .before .before .before .before .before .fits .op) (c .before .before .before .before .before .pre .1) (c .before .match .rest), c .implied .ensures) ends
+returns-2 c = search (accesses, others 13 ((141 ∷ 173 ∷ 205 ∷ []) ∷ []) implied refl tt)
 
 pub column-0d-spec : {M : Type 1} → statement M
 column-0d-spec =

@@ -2,12 +2,13 @@
 -- Assumes nothing.
 use mathlib.Core.Path.{refl}
 use mathlib.Core.List.{[], _∷_}
-use Rattle.memory.proofs.Laws.{ends}
+use Rattle.memory.proofs.Laws.{accesses}
 use Rattle.instructions.specs.Rows.{rows}
 use Rattle.instructions.specs.Rows.Mode.{breakVector, immediateToDirect, implied, pulledWord, toX, upperPage}
 use Rattle.instructions.specs.Gather.{gatherOf}
 use Rattle.gather.proofs.Table.{opcodes, others}
 use borrow.Author.Needs.{needs}
+use Rattle.gather.proofs.Found.{aimed-by}
 use Rattle.gather.proofs.columns.column_0f.Statement.{statement}
 use Rattle.gather.proofs.columns.column_0f.Tie as tie
 
@@ -37,36 +38,36 @@ same-length c = search needs
 
 returns : tie.Need-returns
 unfolding rows gatherOf
-returns c = rw (opcodes (15 ∷ []) breakVector refl (c .before .before .before .before .before .before .before .before .fits .op) (c .before .before .before .before .match .keys1)) (c .before .before .vector-at .ensures)
+returns c = search (accesses, opcodes (15 ∷ []) breakVector refl)
 
 same-length-2 : tie.Need-same-length-2
 same-length-2 c = search needs
 
 returns-2 : tie.Need-returns-2
 unfolding rows gatherOf
-returns-2 c = rw (opcodes (79 ∷ []) upperPage refl (c .before .before .before .before .before .before .before .before .fits .op) (c .before .before .before .before .match .keys2)) (c .before .before .upper-page .ensures)
+returns-2 c = search (accesses, opcodes (79 ∷ []) upperPage refl)
 
 same-length-3 : tie.Need-same-length-3
 same-length-3 c = search needs
 
 returns-3 : tie.Need-returns-3
 unfolding rows gatherOf
-returns-3 c = rw (opcodes (111 ∷ []) pulledWord refl (c .before .before .before .before .before .before .before .before .fits .op) (c .before .before .before .before .match .keys3)) (c .before .before .pulled-word .ensures)
+returns-3 c = search (accesses, opcodes (111 ∷ []) pulledWord refl)
 
 same-length-4 : tie.Need-same-length-4
 same-length-4 c = search needs
 
 returns-4 : tie.Need-returns-4
 unfolding rows gatherOf
-returns-4 c = rw (opcodes (143 ∷ []) immediateToDirect refl (c .before .before .before .before .before .before .before .before .fits .op) (c .before .before .before .before .match .keys4)) (c .before .before .immediate-to-direct .ensures)
+returns-4 c = search (accesses, opcodes (143 ∷ []) immediateToDirect refl)
 
 returns-5 : tie.Need-returns-5
 unfolding rows gatherOf
-returns-5 c = rw (opcodes (175 ∷ []) toX refl (c .before .before .before .before .before .before .fits .op) (c .before .before .match .keys5), c .aim .ensures, c .before .ix .ensures) ends
+returns-5 c = search (accesses, opcodes (175 ∷ []) toX refl, aimed-by)
 
 returns-6 : tie.Need-returns-6
 unfolding rows gatherOf
-returns-6 c = rw (others 15 ((175 ∷ []) ∷ (143 ∷ []) ∷ (111 ∷ []) ∷ (79 ∷ []) ∷ (15 ∷ []) ∷ []) implied refl tt (c .before .before .before .before .before .fits .op) (c .before .before .before .before .before .pre .1) (c .before .match .rest), c .implied .ensures) ends
+returns-6 c = search (accesses, others 15 ((175 ∷ []) ∷ (143 ∷ []) ∷ (111 ∷ []) ∷ (79 ∷ []) ∷ (15 ∷ []) ∷ []) implied refl tt)
 
 pub column-0f-spec : {M : Type 1} → statement M
 column-0f-spec =

@@ -2,7 +2,7 @@
 -- Assumes nothing.
 use mathlib.Core.Path.{refl}
 use mathlib.Core.List.{[], _∷_}
-use Rattle.memory.proofs.Laws.{ends}
+use Rattle.memory.proofs.Laws.{accesses}
 use Rattle.instructions.specs.Rows.{rows}
 use Rattle.instructions.specs.Rows.Mode.{absolute, direct, directX, implied}
 use Rattle.instructions.specs.Gather.{gatherOf}
@@ -28,25 +28,25 @@ same-length c = search needs
 
 returns : tie.Need-returns
 unfolding rows gatherOf
-returns c = rw (opcodes (30 ∷ 94 ∷ []) absolute refl (c .before .before .before .before .before .before .before .before .fits .op) (c .before .before .before .before .match .keys1)) (c .before .before .absolute .ensures)
+returns c = search (accesses, opcodes (30 ∷ 94 ∷ []) absolute refl)
 
 same-length-2 : tie.Need-same-length-2
 same-length-2 c = search needs
 
 returns-2 : tie.Need-returns-2
 unfolding rows gatherOf
-returns-2 c = rw (opcodes (62 ∷ 126 ∷ []) direct refl (c .before .before .before .before .before .before .before .before .fits .op) (c .before .before .before .before .match .keys2)) (c .before .before .direct .ensures)
+returns-2 c = search (accesses, opcodes (62 ∷ 126 ∷ []) direct refl)
 
 same-length-3 : tie.Need-same-length-3
 same-length-3 c = search needs
 
 returns-3 : tie.Need-returns-3
 unfolding rows gatherOf
-returns-3 c = rw (opcodes (222 ∷ []) directX refl (c .before .before .before .before .before .before .before .before .fits .op) (c .before .before .before .before .match .keys3)) (c .before .before .direct-x .ensures)
+returns-3 c = search (accesses, opcodes (222 ∷ []) directX refl)
 
 returns-4 : tie.Need-returns-4
 unfolding rows gatherOf
-returns-4 c = rw (others 30 ((222 ∷ []) ∷ (62 ∷ 126 ∷ []) ∷ (30 ∷ 94 ∷ []) ∷ []) implied refl tt (c .before .before .before .before .before .fits .op) (c .before .before .before .before .before .pre .1) (c .before .match .rest), c .implied .ensures) ends
+returns-4 c = search (accesses, others 30 ((222 ∷ []) ∷ (62 ∷ 126 ∷ []) ∷ (30 ∷ 94 ∷ []) ∷ []) implied refl tt)
 
 pub column-1e-spec : {M : Type 1} → statement M
 column-1e-spec =

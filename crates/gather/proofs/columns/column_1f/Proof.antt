@@ -2,10 +2,10 @@
 -- Assumes nothing.
 use mathlib.Core.Path.{refl}
 use mathlib.Core.List.{[], _∷_}
-use Rattle.memory.proofs.Laws.{ends}
+use Rattle.memory.proofs.Laws.{accesses, by}
 use Rattle.instructions.specs.Rows.{rows}
 use Rattle.instructions.specs.Rows.Mode.{atX, implied, pulledThree, word, wordAtX}
-use Rattle.instructions.specs.Gather.{gatherOf}
+use Rattle.instructions.specs.Gather.{gatherOf, loaded}
 use Rattle.gather.proofs.Table.{opcodes, others}
 use borrow.Author.Needs.{needs}
 use Rattle.gather.proofs.columns.column_1f.Statement.{statement}
@@ -34,32 +34,32 @@ same-length c = search needs
 
 returns : tie.Need-returns
 unfolding rows gatherOf
-returns c = rw (opcodes (31 ∷ []) wordAtX refl (c .before .before .before .before .before .before .before .before .fits .op) (c .before .before .before .before .match .keys1)) (c .before .before .word-at-x .ensures)
+returns c = search (accesses, opcodes (31 ∷ []) wordAtX refl)
 
 same-length-2 : tie.Need-same-length-2
 same-length-2 c = search needs
 
 returns-2 : tie.Need-returns-2
 unfolding rows gatherOf
-returns-2 c = rw (opcodes (63 ∷ 95 ∷ []) word refl (c .before .before .before .before .before .before .before .before .fits .op) (c .before .before .before .before .match .keys2)) (c .before .before .word .ensures)
+returns-2 c = search (accesses, opcodes (63 ∷ 95 ∷ []) word refl)
 
 same-length-3 : tie.Need-same-length-3
 same-length-3 c = search needs
 
 returns-3 : tie.Need-returns-3
 unfolding rows gatherOf
-returns-3 c = rw (opcodes (127 ∷ []) pulledThree refl (c .before .before .before .before .before .before .before .before .fits .op) (c .before .before .before .before .match .keys3)) (c .before .before .pulled-three .ensures)
+returns-3 c = search (accesses, opcodes (127 ∷ []) pulledThree refl)
 
 same-length-4 : tie.Need-same-length-4
 same-length-4 c = search needs
 
 returns-4 : tie.Need-returns-4
 unfolding rows gatherOf
-returns-4 c = rw (opcodes (191 ∷ []) atX refl (c .before .before .before .before .before .before .before .before .before .fits .op) (c .before .before .before .before .before .match .keys4)) (rw (c .before .before .before .before .ix .ensures) at (c .before .before .load .ensures))
+returns-4 c = search (accesses, opcodes (191 ∷ []) atX refl, by loaded)
 
 returns-5 : tie.Need-returns-5
 unfolding rows gatherOf
-returns-5 c = rw (others 31 ((191 ∷ []) ∷ (127 ∷ []) ∷ (63 ∷ 95 ∷ []) ∷ (31 ∷ []) ∷ []) implied refl tt (c .before .before .before .before .before .fits .op) (c .before .before .before .before .before .pre .1) (c .before .match .rest), c .implied .ensures) ends
+returns-5 c = search (accesses, others 31 ((191 ∷ []) ∷ (127 ∷ []) ∷ (63 ∷ 95 ∷ []) ∷ (31 ∷ []) ∷ []) implied refl tt)
 
 pub column-1f-spec : {M : Type 1} → statement M
 column-1f-spec =

@@ -1,8 +1,8 @@
 -- One read, at the address that was found.
 -- Assumes nothing.
-use Rattle.memory.proofs.Laws.{read-then, ends}
 use Rattle.instructions.specs.Gather.{loaded}
 use borrow.Author.Needs.{needs}
+use Rattle.memory.proofs.Laws.{accesses}
 use Rattle.gather.proofs.places.load.Statement.{statement}
 use Rattle.gather.proofs.places.load.Tie as tie
 
@@ -14,7 +14,7 @@ same-length c = search needs
 
 returns : tie.Need-returns
 unfolding loaded
-returns c = read-then (c .before .before .before .read .ensures) ends
+returns c = search accesses
 
 pub load-spec : {M : Type 1} → statement M
 load-spec = tie.close (tie.spec read-requires same-length returns)

@@ -1,9 +1,22 @@
 -- Both addresses come from registers, so that the two reads of `load_both` are all.
 -- Assumes nothing.
+use mathlib.Core.Path.{_≡_}
 use borrow.Author.Needs.{needs}
-use Rattle.instructions.specs.Gather.{gatherOf}
+use Rattle.memory.specs.World.{World}
+use Rattle.memory.specs.Access.{Outcome, Does}
+use Rattle.processor.specs.declared.Processor.{Processor}
+use Rattle.modes.specs.Modes.{indirect}
+use Rattle.modes.specs.declared.Addressed.{Addressed}
+use Rattle.instructions.specs.Rows.Mode.{atXatY}
+use Rattle.instructions.specs.declared.Operands.{Operands}
+use Rattle.instructions.specs.Gather.{bothLoaded, gatherOf}
 use Rattle.gather.proofs.several.at_x_at_y.Statement.{statement}
 use Rattle.gather.proofs.several.at_x_at_y.Tie as tie
+
+from-registers : (cpu : Processor) {f g : Addressed} {w : World} {o : Outcome World Operands}
+    → f ≡ indirect (cpu .y) cpu → g ≡ indirect (cpu .x) cpu → Does (bothLoaded (f .at) g) w o → Does (gatherOf atXatY 0 cpu) w o
+unfolding gatherOf
+from-registers cpu e h does = rw (e, h) at does
 
 iy-requires : tie.Need-iy-requires
 iy-requires c κs = search needs
@@ -18,10 +31,7 @@ same-length : tie.Need-same-length
 same-length c = search needs
 
 returns : tie.Need-returns
-unfolding gatherOf
-returns c =
-    rw (c .before .before .before .before .ix .ensures, c .before .before .before .before .before .iy .ensures)
-    at (c .before .before .load-both .ensures)
+returns c = search (needs, from-registers)
 
 pub at-x-at-y-spec : {M : Type 1} → statement M
 at-x-at-y-spec =

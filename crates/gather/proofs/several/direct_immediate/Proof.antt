@@ -1,7 +1,7 @@
 -- The immediate, then the target's address, then a read there.
 -- Assumes nothing.
 use borrow.Author.Needs.{needs}
-use Rattle.memory.proofs.Laws.{chain, read-then, ends}
+use Rattle.memory.proofs.Laws.{accesses}
 use Rattle.instructions.specs.Gather.{gatherOf}
 use Rattle.gather.proofs.several.direct_immediate.Statement.{statement}
 use Rattle.gather.proofs.several.direct_immediate.Tie as tie
@@ -20,10 +20,7 @@ same-length c = search needs
 
 returns : tie.Need-returns
 unfolding gatherOf
-returns c =
-    chain _ (c .before .before .before .before .before .before .before .before .before .before .before .before .fetch-u8 .ensures)
-    (chain _ (c .before .before .before .before .before .before .before .d .ensures)
-    (read-then (c .before .before .before .read .ensures) ends))
+returns c = search accesses
 
 pub direct-immediate-spec : {M : Type 1} → statement M
 direct-immediate-spec =

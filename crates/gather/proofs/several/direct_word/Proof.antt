@@ -1,8 +1,8 @@
 -- Both addresses, then a read at each, the low byte's first.
 -- Assumes nothing.
 use borrow.Author.Needs.{needs}
-use Rattle.memory.proofs.Laws.{chain, read-then, ends}
 use Rattle.instructions.specs.Gather.{gatherOf}
+use Rattle.memory.proofs.Laws.{ends, chain, read-then}
 use Rattle.gather.proofs.several.direct_word.Statement.{statement}
 use Rattle.gather.proofs.several.direct_word.Tie as tie
 
@@ -20,10 +20,7 @@ same-length c = search needs
 
 returns : tie.Need-returns
 unfolding gatherOf
-returns c =
-    chain _ (c .before .before .before .before .before .before .before .before .before .before .before .dw .ensures)
-    (read-then (c .before .before .before .before .before .before .before .read .ensures)
-    (read-then (c .before .before .before .read2 .ensures) ends))
+returns c = search (needs, chain, read-then, ends)
 
 pub direct-word-spec : {M : Type 1} → statement M
 direct-word-spec =

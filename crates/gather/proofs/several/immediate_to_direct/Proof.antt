@@ -1,7 +1,7 @@
 -- The immediate, then the target's address; nothing is read there.
 -- Assumes nothing.
 use borrow.Author.Needs.{needs}
-use Rattle.memory.proofs.Laws.{chain, ends}
+use Rattle.memory.proofs.Laws.{accesses}
 use Rattle.instructions.specs.Gather.{gatherOf}
 use Rattle.gather.proofs.several.immediate_to_direct.Statement.{statement}
 use Rattle.gather.proofs.several.immediate_to_direct.Tie as tie
@@ -17,9 +17,7 @@ same-length c = search needs
 
 returns : tie.Need-returns
 unfolding gatherOf
-returns c =
-    chain _ (c .before .before .before .before .before .before .before .before .fetch-u8 .ensures)
-    (chain _ (c .before .before .before .d .ensures) ends)
+returns c = search accesses
 
 pub immediate-to-direct-spec : {M : Type 1} → statement M
 immediate-to-direct-spec = tie.close (tie.spec fetch-u8-requires d-requires same-length returns)

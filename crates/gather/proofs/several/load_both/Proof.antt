@@ -1,7 +1,7 @@
 -- Two reads, the source's first.
 -- Assumes nothing.
 use borrow.Author.Needs.{needs}
-use Rattle.memory.proofs.Laws.{read-then, ends}
+use Rattle.memory.proofs.Laws.{accesses}
 use Rattle.instructions.specs.Gather.{bothLoaded}
 use Rattle.gather.proofs.several.load_both.Statement.{statement}
 use Rattle.gather.proofs.several.load_both.Tie as tie
@@ -17,9 +17,7 @@ same-length c = search needs
 
 returns : tie.Need-returns
 unfolding bothLoaded
-returns c =
-    read-then (c .before .before .before .before .before .before .before .read .ensures)
-    (read-then (c .before .before .before .read2 .ensures) ends)
+returns c = search accesses
 
 pub load-both-spec : {M : Type 1} → statement M
 load-both-spec = tie.close (tie.spec read-requires read-requires-2 same-length returns)

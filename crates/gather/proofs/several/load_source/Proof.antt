@@ -1,7 +1,7 @@
 -- One read, of the source.
 -- Assumes nothing.
 use borrow.Author.Needs.{needs}
-use Rattle.memory.proofs.Laws.{read-then, ends}
+use Rattle.memory.proofs.Laws.{accesses}
 use Rattle.instructions.specs.Gather.{sourceLoaded}
 use Rattle.gather.proofs.several.load_source.Statement.{statement}
 use Rattle.gather.proofs.several.load_source.Tie as tie
@@ -14,7 +14,7 @@ same-length c = search needs
 
 returns : tie.Need-returns
 unfolding sourceLoaded
-returns c = read-then (c .before .before .before .read .ensures) ends
+returns c = search accesses
 
 pub load-source-spec : {M : Type 1} → statement M
 load-source-spec = tie.close (tie.spec read-requires same-length returns)

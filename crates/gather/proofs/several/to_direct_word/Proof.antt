@@ -1,7 +1,7 @@
 -- Both addresses; nothing is read there.
 -- Assumes nothing.
 use borrow.Author.Needs.{needs}
-use Rattle.memory.proofs.Laws.{chain, ends}
+use Rattle.memory.proofs.Laws.{accesses}
 use Rattle.instructions.specs.Gather.{gatherOf}
 use Rattle.gather.proofs.several.to_direct_word.Statement.{statement}
 use Rattle.gather.proofs.several.to_direct_word.Tie as tie
@@ -14,7 +14,7 @@ same-length c = search needs
 
 returns : tie.Need-returns
 unfolding gatherOf
-returns c = chain _ (c .before .before .before .dw .ensures) ends
+returns c = search accesses
 
 pub to-direct-word-spec : {M : Type 1} → statement M
 to-direct-word-spec = tie.close (tie.spec dw-requires same-length returns)

@@ -1,7 +1,7 @@
 -- Two pulls, the word's from where the byte's left SP.
 -- Assumes nothing.
 use borrow.Author.Needs.{needs}
-use Rattle.memory.proofs.Laws.{chain, ends}
+use Rattle.memory.proofs.Laws.{accesses}
 use Rattle.instructions.specs.Gather.{gatherOf}
 use Rattle.gather.proofs.ways.pulled_three.Statement.{statement}
 use Rattle.gather.proofs.ways.pulled_three.Tie as tie
@@ -17,9 +17,7 @@ same-length c = search needs
 
 returns : tie.Need-returns
 unfolding gatherOf
-returns c =
-    chain _ (c .before .before .before .before .before .before .before .before .pull-from-stack-u8 .ensures)
-    (chain _ (c .before .before .before .pull-from-stack-u16 .ensures) ends)
+returns c = search accesses
 
 pub pulled-three-spec : {M : Type 1} → statement M
 pulled-three-spec =

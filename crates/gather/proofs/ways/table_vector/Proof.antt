@@ -1,6 +1,7 @@
 -- The address is the definition's own, and `vector_at` reads the word there.
 -- Assumes nothing.
 use borrow.Author.Needs.{needs}
+use Rattle.memory.proofs.Laws.{accesses}
 use Rattle.gather.proofs.ways.table_vector.Statement.{statement}
 use Rattle.gather.proofs.ways.table_vector.Tie as tie
 
@@ -17,7 +18,7 @@ same-length : tie.Need-same-length
 same-length c = search needs
 
 returns : tie.Need-returns
-returns c = c .before .before .vector-at .ensures
+returns c = search accesses
 
 pub table-vector-spec : {M : Type 1} → statement M
 table-vector-spec =

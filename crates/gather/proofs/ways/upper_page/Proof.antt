@@ -1,7 +1,7 @@
 -- One fetch; its byte, above 0xFF00, is where to go.
 -- Assumes nothing.
 use borrow.Author.Needs.{needs}
-use Rattle.memory.proofs.Laws.{chain, ends}
+use Rattle.memory.proofs.Laws.{accesses}
 use Rattle.instructions.specs.Gather.{gatherOf}
 use Rattle.gather.proofs.ways.upper_page.Statement.{statement}
 use Rattle.gather.proofs.ways.upper_page.Tie as tie
@@ -20,7 +20,7 @@ same-length c = search needs
 
 returns : tie.Need-returns
 unfolding gatherOf
-returns c = chain _ (c .before .before .before .before .fetch-u8 .ensures) ends
+returns c = search accesses
 
 pub upper-page-spec : {M : Type 1} → statement M
 upper-page-spec = tie.close (tie.spec fetch-u8-requires cast-t9 add-t10 same-length returns)

@@ -1,7 +1,7 @@
 -- One word is read, and is where to go.
 -- Assumes nothing.
 use borrow.Author.Needs.{needs}
-use Rattle.memory.proofs.Laws.{chain, ends}
+use Rattle.memory.proofs.Laws.{accesses}
 use Rattle.instructions.specs.Gather.{vector}
 use Rattle.gather.proofs.ways.vector_at.Statement.{statement}
 use Rattle.gather.proofs.ways.vector_at.Tie as tie
@@ -14,7 +14,7 @@ same-length c = search needs
 
 returns : tie.Need-returns
 unfolding vector
-returns c = chain _ (c .before .before .read-u16 .ensures) ends
+returns c = search accesses
 
 pub vector-at-spec : {M : Type 1} → statement M
 vector-at-spec = tie.close (tie.spec read-u16-requires same-length returns)

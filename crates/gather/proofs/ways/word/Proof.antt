@@ -1,8 +1,8 @@
 -- What is found is where to go; nothing is read there.
 -- Assumes nothing.
-use Rattle.memory.proofs.Laws.{chain, ends}
 use Rattle.instructions.specs.Gather.{gatherOf}
 use borrow.Author.Needs.{needs}
+use Rattle.memory.proofs.Laws.{accesses}
 use Rattle.gather.proofs.ways.word.Statement.{statement}
 use Rattle.gather.proofs.ways.word.Tie as tie
 
@@ -17,7 +17,7 @@ same-length c = search needs
 
 returns : tie.Need-returns
 unfolding gatherOf
-returns c = chain _ (c .before .before .before .abs .ensures) (rw (c .aim .ensures) ends)
+returns c = search accesses
 
 pub word-spec : {M : Type 1} → statement M
 word-spec = tie.close (tie.spec abs-requires aim-requires same-length returns)

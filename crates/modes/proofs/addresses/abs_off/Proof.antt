@@ -1,8 +1,9 @@
 -- The operand word is fetched, and the index added to it.
 -- Assumes nothing.
 use borrow.Author.Needs.{needs}
+use Rattle.modes.proofs.Same.{same}
+use Rattle.memory.proofs.Laws.{accesses}
 use Rattle.modes.specs.Modes.{absolute}
-use Rattle.memory.proofs.Laws.{chain, ends}
 use Rattle.modes.proofs.addresses.abs_off.Statement.{statement}
 use Rattle.modes.proofs.addresses.abs_off.Tie as tie
 
@@ -17,7 +18,7 @@ same-length c = search needs
 
 returns : tie.Need-returns
 unfolding absolute
-returns c = chain _ (c .before .before .before .before .fetch-u16 .ensures) (rw (c .wrapping-add-u16 .ensures) ends)
+returns c = search (accesses, same)
 
 pub abs-off-spec : {M : Type 1} → statement M
 abs-off-spec =

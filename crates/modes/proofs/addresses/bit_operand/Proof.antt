@@ -1,8 +1,8 @@
 -- The operand word is fetched, and taken apart.
 -- Assumes nothing.
 use borrow.Author.Needs.{needs}
+use Rattle.memory.proofs.Laws.{accesses}
 use Rattle.modes.specs.Modes.{bitOperand}
-use Rattle.memory.proofs.Laws.{chain, ends}
 use Rattle.modes.proofs.addresses.bit_operand.Statement.{statement}
 use Rattle.modes.proofs.addresses.bit_operand.Tie as tie
 
@@ -17,7 +17,7 @@ same-length c = search needs
 
 returns : tie.Need-returns
 unfolding bitOperand
-returns c = chain _ (c .before .before .before .before .before .fetch-u16 .ensures) ends
+returns c = search accesses
 
 pub bit-operand-spec : {M : Type 1} → statement M
 bit-operand-spec = tie.close (tie.spec fetch-u16-requires cast-bit same-length returns)

@@ -1,8 +1,9 @@
 -- A fetch; the byte is placed in the direct page by `page`.
 -- Assumes nothing.
 use borrow.Author.Needs.{needs}
+use Rattle.modes.proofs.Same.{same}
+use Rattle.memory.proofs.Laws.{accesses}
 use Rattle.modes.specs.Modes.{direct}
-use Rattle.memory.proofs.Laws.{chain, ends}
 use Rattle.modes.proofs.addresses.d_off.Statement.{statement}
 use Rattle.modes.proofs.addresses.d_off.Tie as tie
 
@@ -17,7 +18,7 @@ same-length c = search needs
 
 returns : tie.Need-returns
 unfolding direct
-returns c = chain _ (c .before .before .before .before .before .fetch-u8 .ensures) (rw (c .page .ensures) ends)
+returns c = search (accesses, same)
 
 pub d-off-spec : {M : Type 1} → statement M
 d-off-spec = tie.close (tie.spec fetch-u8-requires page-requires same-length returns)

@@ -1,8 +1,9 @@
 -- A fetch; both addresses are placed in the direct page by `page`, so that the second wraps inside it.
 -- Assumes nothing.
 use borrow.Author.Needs.{needs}
+use Rattle.modes.proofs.Same.{same}
+use Rattle.memory.proofs.Laws.{accesses}
 use Rattle.modes.specs.Modes.{directWord}
-use Rattle.memory.proofs.Laws.{chain, ends}
 use Rattle.modes.proofs.addresses.dw.Statement.{statement}
 use Rattle.modes.proofs.addresses.dw.Tie as tie
 
@@ -20,9 +21,7 @@ same-length c = search needs
 
 returns : tie.Need-returns
 unfolding directWord
-returns c =
-    chain _ (c .before .before .before .before .before .before .fetch-u8 .ensures)
-    (rw (c .before .page .ensures, c .page2 .ensures) ends)
+returns c = search (accesses, same)
 
 pub dw-spec : {M : Type 1} → statement M
 dw-spec = tie.close (tie.spec fetch-u8-requires page-requires page-requires-2 same-length returns)

@@ -1,8 +1,8 @@
 -- Two fetches, the second from where the first left PC.
 -- Assumes nothing.
 use borrow.Author.Needs.{needs}
+use Rattle.memory.proofs.Laws.{accesses}
 use Rattle.modes.specs.Modes.{fetchWord}
-use Rattle.memory.proofs.Laws.{chain, ends}
 use Rattle.modes.proofs.addresses.fetch_u16.Statement.{statement}
 use Rattle.modes.proofs.addresses.fetch_u16.Tie as tie
 
@@ -29,9 +29,7 @@ same-length c = search needs
 
 returns : tie.Need-returns
 unfolding fetchWord
-returns c =
-    chain _ (c .before .before .before .before .before .before .before .before .before .before .fetch-u8 .ensures)
-    (chain _ (c .before .before .before .before .before .fetch-u82 .ensures) ends)
+returns c = search accesses
 
 pub fetch-u16-spec : {M : Type 1} → statement M
 fetch-u16-spec =

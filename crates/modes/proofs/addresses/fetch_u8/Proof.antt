@@ -1,8 +1,9 @@
 -- One read at PC, then PC moves on.
 -- Assumes nothing.
 use borrow.Author.Needs.{needs}
+use Rattle.modes.proofs.Same.{same}
+use Rattle.memory.proofs.Laws.{accesses}
 use Rattle.modes.specs.Modes.{fetch}
-use Rattle.memory.proofs.Laws.{read-then, ends}
 use Rattle.modes.proofs.addresses.fetch_u8.Statement.{statement}
 use Rattle.modes.proofs.addresses.fetch_u8.Tie as tie
 
@@ -17,7 +18,7 @@ same-length c = search needs
 
 returns : tie.Need-returns
 unfolding fetch
-returns c = read-then (c .before .before .before .read .ensures) (rw (c .past .ensures) ends)
+returns c = search (accesses, same)
 
 pub fetch-u8-spec : {M : Type 1} → statement M
 fetch-u8-spec = tie.close (tie.spec read-requires past-requires same-length returns)

@@ -1,8 +1,8 @@
 -- !a+X, then the pointer word there.
 -- Assumes nothing.
 use borrow.Author.Needs.{needs}
+use Rattle.memory.proofs.Laws.{accesses}
 use Rattle.modes.specs.Modes.{absolutePointer}
-use Rattle.memory.proofs.Laws.{chain}
 use Rattle.modes.proofs.addresses.iax.Statement.{statement}
 use Rattle.modes.proofs.addresses.iax.Tie as tie
 
@@ -17,7 +17,7 @@ same-length c = search needs
 
 returns : tie.Need-returns
 unfolding absolutePointer
-returns c = chain _ (c .before .before .before .before .before .before .absx .ensures) (c .before .before .pointer .ensures)
+returns c = search accesses
 
 pub iax-spec : {M : Type 1} → statement M
 iax-spec = tie.close (tie.spec absx-requires pointer-requires same-length returns)

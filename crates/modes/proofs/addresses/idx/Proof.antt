@@ -1,8 +1,8 @@
 -- d+X, then the pointer word there.
 -- Assumes nothing.
 use borrow.Author.Needs.{needs}
+use Rattle.memory.proofs.Laws.{accesses}
 use Rattle.modes.specs.Modes.{pointerX}
-use Rattle.memory.proofs.Laws.{chain}
 use Rattle.modes.proofs.addresses.idx.Statement.{statement}
 use Rattle.modes.proofs.addresses.idx.Tie as tie
 
@@ -17,7 +17,7 @@ same-length c = search needs
 
 returns : tie.Need-returns
 unfolding pointerX
-returns c = chain _ (c .before .before .before .before .before .before .dx .ensures) (c .before .before .pointer .ensures)
+returns c = search accesses
 
 pub idx-spec : {M : Type 1} → statement M
 idx-spec = tie.close (tie.spec dx-requires pointer-requires same-length returns)

@@ -1,8 +1,8 @@
 -- d, then the pointer word there.
 -- Assumes nothing.
 use borrow.Author.Needs.{needs}
+use Rattle.memory.proofs.Laws.{accesses}
 use Rattle.modes.specs.Modes.{pointerY}
-use Rattle.memory.proofs.Laws.{chain}
 use Rattle.modes.proofs.addresses.idy.Statement.{statement}
 use Rattle.modes.proofs.addresses.idy.Tie as tie
 
@@ -17,7 +17,7 @@ same-length c = search needs
 
 returns : tie.Need-returns
 unfolding pointerY
-returns c = chain _ (c .before .before .before .before .before .before .d .ensures) (c .before .before .pointer .ensures)
+returns c = search accesses
 
 pub idy-spec : {M : Type 1} → statement M
 idy-spec = tie.close (tie.spec d-requires pointer-requires same-length returns)

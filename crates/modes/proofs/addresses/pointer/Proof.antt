@@ -1,8 +1,9 @@
 -- A word is read at the address, and the index added to it.
 -- Assumes nothing.
 use borrow.Author.Needs.{needs}
+use Rattle.modes.proofs.Same.{same}
+use Rattle.memory.proofs.Laws.{accesses}
 use Rattle.modes.specs.Modes.{pointed}
-use Rattle.memory.proofs.Laws.{chain, ends}
 use Rattle.modes.proofs.addresses.pointer.Statement.{statement}
 use Rattle.modes.proofs.addresses.pointer.Tie as tie
 
@@ -17,7 +18,7 @@ same-length c = search needs
 
 returns : tie.Need-returns
 unfolding pointed
-returns c = chain _ (c .before .before .before .before .read-u16 .ensures) (rw (c .wrapping-add-u16 .ensures) ends)
+returns c = search (accesses, same)
 
 pub pointer-spec : {M : Type 1} → statement M
 pointer-spec = tie.close (tie.spec read-u16-requires wrapping-add-u16-requires same-length returns)

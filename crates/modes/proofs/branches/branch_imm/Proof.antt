@@ -1,8 +1,9 @@
 -- The displacement is fetched, and leads from the PC behind it.
 -- Assumes nothing.
 use borrow.Author.Needs.{needs}
+use Rattle.modes.proofs.Same.{same}
+use Rattle.memory.proofs.Laws.{accesses}
 use Rattle.modes.specs.Branches.{branched}
-use Rattle.memory.proofs.Laws.{chain, ends}
 use Rattle.modes.proofs.branches.branch_imm.Statement.{statement}
 use Rattle.modes.proofs.branches.branch_imm.Tie as tie
 
@@ -17,7 +18,7 @@ same-length c = search needs
 
 returns : tie.Need-returns
 unfolding branched
-returns c = chain _ (c .before .before .before .before .fetch-u8 .ensures) (rw (c .branch-target .ensures) ends)
+returns c = search (accesses, same)
 
 pub branch-imm-spec : {M : Type 1} → statement M
 branch-imm-spec = tie.close (tie.spec fetch-u8-requires branch-target-requires same-length returns)

@@ -1,8 +1,8 @@
 -- PC is pushed, then replaced.
 -- Assumes nothing.
 use borrow.Author.Needs.{needs}
+use Rattle.memory.proofs.Laws.{accesses}
 use Rattle.modes.specs.Stack.{called}
-use Rattle.memory.proofs.Laws.{chain, ends}
 use Rattle.modes.proofs.stack.call.Statement.{statement}
 use Rattle.modes.proofs.stack.call.Tie as tie
 
@@ -17,7 +17,7 @@ same-length-2 c = search needs
 
 returns : tie.Need-returns
 unfolding called
-returns c = chain _ (c .before .before .before .before .push-to-stack-u16 .ensures) ends
+returns c = search accesses
 
 pub call-spec : {M : Type 1} → statement M
 call-spec = tie.close (tie.spec push-to-stack-u16-requires same-length same-length-2 returns)

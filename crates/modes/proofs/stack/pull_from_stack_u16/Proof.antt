@@ -1,8 +1,8 @@
 -- Two pulls, low byte first, the second from where the first left SP.
 -- Assumes nothing.
 use borrow.Author.Needs.{needs}
+use Rattle.memory.proofs.Laws.{accesses}
 use Rattle.modes.specs.Stack.{pullWord}
-use Rattle.memory.proofs.Laws.{chain, ends}
 use Rattle.modes.proofs.stack.pull_from_stack_u16.Statement.{statement}
 use Rattle.modes.proofs.stack.pull_from_stack_u16.Tie as tie
 
@@ -29,9 +29,7 @@ same-length c = search needs
 
 returns : tie.Need-returns
 unfolding pullWord
-returns c =
-    chain _ (c .before .before .before .before .before .before .before .before .before .before .pull-from-stack-u8 .ensures)
-    (chain _ (c .before .before .before .before .before .pull-from-stack-u82 .ensures) ends)
+returns c = search accesses
 
 pub pull-from-stack-u16-spec : {M : Type 1} → statement M
 pull-from-stack-u16-spec =

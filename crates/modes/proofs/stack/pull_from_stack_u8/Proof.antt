@@ -1,10 +1,16 @@
 -- SP goes up, then one read at 0x100 + SP.
 -- Assumes nothing.
+use Prim.Native.Nat.{ℕ, _+_}
+use mathlib.Core.Path.{_≡_}
 use borrow.Author.Needs.{needs}
 use Rattle.modes.specs.Stack.{pull}
-use Rattle.memory.proofs.Laws.{read-then, ends}
+use Rattle.memory.proofs.Laws.{accesses}
+use Rattle.modes.proofs.Same.{same}
 use Rattle.modes.proofs.stack.pull_from_stack_u8.Statement.{statement}
 use Rattle.modes.proofs.stack.pull_from_stack_u8.Tie as tie
+
+in-stack : (sp place : ℕ) → sp ≡ place → 0x100 + sp ≡ 0x100 + place
+in-stack sp place e = rw e
 
 wrapping-add-u8-requires : tie.Need-wrapping-add-u8-requires
 wrapping-add-u8-requires c κs = search needs
@@ -23,9 +29,7 @@ same-length c = search needs
 
 returns : tie.Need-returns
 unfolding pull
-returns c =
-    rw (← c .before .before .before .before .before .wrapping-add-u8 .ensures)
-    (read-then (c .before .before .read .ensures) ends)
+returns c = search (accesses, same, in-stack)
 
 pub pull-from-stack-u8-spec : {M : Type 1} → statement M
 pull-from-stack-u8-spec =

@@ -1,8 +1,8 @@
 -- Two pushes, high byte first, the second from where the first left SP.
 -- Assumes nothing.
 use borrow.Author.Needs.{needs}
+use Rattle.memory.proofs.Laws.{accesses}
 use Rattle.modes.specs.Stack.{pushWord}
-use Rattle.memory.proofs.Laws.{chain}
 use Rattle.modes.proofs.stack.push_to_stack_u16.Statement.{statement}
 use Rattle.modes.proofs.stack.push_to_stack_u16.Tie as tie
 
@@ -26,9 +26,7 @@ same-length-2 c = search needs
 
 returns : tie.Need-returns
 unfolding pushWord
-returns c =
-    chain _ (c .before .before .before .before .before .before .before .before .before .before .before .push-to-stack-u8 .ensures)
-    (c .before .before .before .before .push-to-stack-u82 .ensures)
+returns c = search accesses
 
 pub push-to-stack-u16-spec : {M : Type 1} → statement M
 push-to-stack-u16-spec =

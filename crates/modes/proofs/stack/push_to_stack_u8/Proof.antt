@@ -1,8 +1,9 @@
 -- One store at 0x100 + SP, then SP goes down.
 -- Assumes nothing.
 use borrow.Author.Needs.{needs}
+use Rattle.modes.proofs.Same.{same}
+use Rattle.memory.proofs.Laws.{accesses}
 use Rattle.modes.specs.Stack.{push}
-use Rattle.memory.proofs.Laws.{put-then, ends}
 use Rattle.modes.proofs.stack.push_to_stack_u8.Statement.{statement}
 use Rattle.modes.proofs.stack.push_to_stack_u8.Tie as tie
 
@@ -26,7 +27,7 @@ same-length-2 c = search needs
 
 returns : tie.Need-returns
 unfolding push
-returns c = put-then (c .before .before .before .before .before .store .ensures) (rw (c .difference .ensures) ends)
+returns c = search (accesses, same)
 
 pub push-to-stack-u8-spec : {M : Type 1} → statement M
 push-to-stack-u8-spec =

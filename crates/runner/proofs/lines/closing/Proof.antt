@@ -1,7 +1,8 @@
 -- Each piece of the text is added behind the one before it; pieces added one after the other add up.
 -- Assumes nothing.
 use borrow.Author.Needs.{needs}
-use Rattle.text.proofs.Laws.{adds-append}
+use Rattle.text.proofs.Laws.{written}
+use Rattle.runner.proofs.Laws.{on-new}
 use Rattle.runner.proofs.lines.closing.Statement.{statement}
 use Rattle.runner.proofs.lines.closing.Tie as tie
 
@@ -36,17 +37,7 @@ text-requires-3 : tie.Need-text-requires-3
 text-requires-3 c κs = search needs
 
 returns : tie.Need-returns
-returns c =
-    rw (
-      c .text3 .ensures,
-      c .before .before .decimal2 .ensures,
-      c .before .before .before .text2 .ensures,
-      c .before .before .before .before .before .decimal .ensures,
-      c .before .before .before .before .before .before .text .ensures,
-      c .before .before .before .before .before .before .before .before .on-line .ensures,
-      c .before .before .before .before .before .before .before .before .before .new .ensures,
-    )
-    (simp adds-append)
+returns c = search (written, on-new) depth 12 fits 5000
 
 pub closing-spec : {M : Type 1} → statement M
 closing-spec =
