@@ -1,4 +1,4 @@
--- What a refusal number, 0 or not, says of the lengths and of the answer; and the step as the definition counts it.
+-- What a refusal number, 0 or not, says of the lengths and of the answer; phases by cases.
 -- Assumes nothing.
 use Prim.Native.Nat.{ℕ}
 use mathlib.Core.Path.{_≡_, refl, sym, _∙_}
@@ -8,19 +8,18 @@ use lib.Dec.{eqb}
 use lib.ListN.{length}
 use borrow.Author.Tests.{eq-eqb, ne-eqb, eqb-true}
 use Rattle.memory.specs.World.{World, Sized}
-use Rattle.memory.specs.Access.{Outcome, perform, Does}
-use Rattle.memory.proofs.Laws.{chain, ends}
+use Rattle.memory.specs.Access.{Outcome, Does}
 use Rattle.processor.specs.declared.Processor.{Processor}
-use Rattle.instructions.specs.Step.{stepOf}
-use Rattle.instructions.specs.declared.Stepped.{Stepped}
-use Rattle.runs.specs.Run.{Progress, progress}
-use Rattle.engine.specs.Entry.{ran, accepted, answered, refusalOf, countedStep}
+use Rattle.instructions.specs.Step.{commitOf, branchOf}
+use Rattle.instructions.specs.declared.Stores.{Stores}
+use Rattle.runs.specs.Run.{Progress}
+use Rattle.engine.specs.Entry.{ran, accepted, answered, refusalOf}
 use Rattle.engine.specs.declared.Ran.{Ran}
 
 -- Where nothing is refused, the lengths are right.
-pub sized : (w : World) {r : ℕ} → r ≡ refusalOf w → r ≡ 0 → Sized w
+pub sized : (w : World) {r : ℕ} → r ≡ 0 → r ≡ refusalOf w → Sized w
 unfolding refusalOf
-sized w e z =
+sized w z e =
     go (eqb (length (w .memory)) 65536) (eqb (length (w .reads)) 8192) (eqb (length (w .writes)) 8192) refl refl refl (sym e ∙ z)
   where
     go : (a b c : Bool) → eqb (length (w .memory)) 65536 ≡ a → eqb (length (w .reads)) 8192 ≡ b → eqb (length (w .writes)) 8192 ≡ c
@@ -37,8 +36,11 @@ module _ (cpu : Processor) (w : World) (o : Outcome World (Progress Processor)) 
   pub accepts : {q : Outcome World Ran} → r ≡ 0 → q ≡ accepted o → q ≡ answered cpu w o
   accepts z a = rw (a, ← e, eq-eqb _ _ z)
 
--- a step that the code took, counted
-pub counted : (cpu : Processor) (w : World) {o : Outcome World Stepped} → Does (stepOf cpu) w o
-    → record { result = progress (o .result .cpu) 1 (o .result .stop); left = o .left } ≡ perform (countedStep cpu) w
-unfolding countedStep
-counted cpu w d = chain _ d ends .is
+-- A phase goes by the case that is known: of what is to be stored, and of whether a branch is taken.
+pub commit-as : (s case : Stores) (cpu : Processor) {w : World} {o : Outcome World Processor}
+    → s ≡ case → Does (commitOf case cpu) w o → Does (commitOf s cpu) w o
+commit-as s case cpu e does = rw e does
+
+pub branch-as : (b case : Bool) (cpu : Processor) {w : World} {o : Outcome World Processor}
+    → b ≡ case → Does (branchOf case cpu) w o → Does (branchOf b cpu) w o
+branch-as b case cpu e does = rw e does

@@ -38,7 +38,7 @@ answered cpu w o = cond (eqb (refusalOf w) 0) (accepted o) (refused (refusalOf w
 unfoldable pub countedStep : Processor → Access (Progress Processor)
 countedStep cpu = then (stepOf cpu) (λ s. done (progress (s .cpu) 1 (s .stop)))
 
--- Steps until the budget is spent (stop 0), SLEEP was executed (1) or STOP was executed (2).
+-- A run of such steps: its stop is 1 or 2 where SLEEP or STOP was the last of them, and 0 where the budget ended it.
 abbrev pub runOf : ℕ → Processor → World → Outcome World (Progress Processor)
 runOf = run (taken countedStep)
 

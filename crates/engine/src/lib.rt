@@ -53,14 +53,15 @@ fn take_steps(
     ensures { λ r. ⌜ Yields (λ w. accepted (runOf budget cpu w)) memory reads writes r ⌝ }
 {
     let mut next = cpu;
-    let mut steps: u32 = 0;
+    let mut left: u32 = budget;
     let mut stop: u8 = 0;
-    while steps < budget && stop == 0 {
+    while stop == 0 && left > 0 {
         let stepped = phases::instruction(next, memory, reads, writes);
         next = stepped.cpu;
         stop = stepped.stop;
-        steps = steps + 1;
+        left = left - 1;
     }
+    let steps = budget - left;
     Ran {
         refusal: 0,
         cpu: next,
@@ -69,8 +70,8 @@ fn take_steps(
     }
 }
 
-// A run: steps until the budget is spent (stop 0), SLEEP was executed (1) or STOP was executed (2). Refusals: 1 memory is not 65,536
-// bytes, 2 a map is not 8,192 bytes.
+// A run: as many steps as the budget has (stop 0), or fewer where SLEEP (stop 1) or STOP (stop 2) ends it. Refusals: 1 memory is not
+// 65,536 bytes, 2 a map is not 8,192 bytes.
 pub fn run(
     cpu: Processor,
     memory: &mut [u8],

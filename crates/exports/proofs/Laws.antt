@@ -9,13 +9,13 @@ use lib.Dec.{eqb}
 use lib.ListN.{length}
 use borrow.Author.Tests.{eq-eqb, ne-eqb}
 use Rattle.memory.specs.World.{World}
-use Rattle.memory.specs.Access.{Outcome}
+use Rattle.memory.specs.Access.{Outcome, outcome}
 use Rattle.processor.specs.declared.Processor.{Processor}
 use Rattle.state.specs.Registers.{registersOf}
 use Rattle.runs.specs.Run.{Progress}
-use Rattle.engine.specs.Entry.{refusalOf, accepted, refused, answered}
+use Rattle.engine.specs.Entry.{refusalOf, accepted, refused, answered, runOf, runAnswer}
 use Rattle.engine.specs.declared.Ran.{Ran}
-use Rattle.exports.specs.Calls.{packed, called, handedBack, onBytes}
+use Rattle.exports.specs.Calls.{packed, called, handedBack, Handed, runCall}
 
 -- The engine leaves memory and maps as they were wherever it refuses.
 left-alone : (cpu : Processor) (w : World) (o : Outcome World (Progress Processor)) {q : Outcome World Ran}
@@ -29,25 +29,17 @@ left-alone cpu w o e n = rw e (go (eqb (refusalOf w) 0) (rw e at n))
     go true n = absurd (n refl)
     go false n = refl
 
-module _ (registers : List ℕ) (w : World) where
-  -- What is handed back with memory and maps as they are is right also where they were changed before, if only an accepted call did so.
-  handed : {r : ℕ} {after : List ℕ} (q : Outcome World Ran)
-      → ((u : World) → called r after u ≡ handedBack registers u (record { result = q .result; left = u }))
-      → ((q .result .refusal ≡ 0 → ⊥) → q .left ≡ w)
-      → called r after (q .left) ≡ handedBack registers w q
-  handed {r} {after} q back same = go (ℕ-discrete (q .result .refusal) 0)
+module _ (budget : ℕ) (registers : List ℕ) (w : World) where
+  pub not-seven : {r : ℕ} → (length registers ≡ 7 → ⊥) → r ≡ packed 6 0 0 → called r registers w ≡ runCall budget registers w
+  not-seven n e = rw (e, ne-eqb _ _ n)
+
+  -- What is handed back with memory and maps as they are is right also where they were changed before, as only an accepted call does.
+  pub seven : {cpu : Processor} {ran : Ran} {left : World} {r : ℕ} {after : List ℕ} → length registers ≡ 7
+      → Handed ran registers after r → outcome ran left ≡ runAnswer budget cpu w → cpu ≡ registersOf registers
+      → called r after left ≡ runCall budget registers w
+  seven {cpu} {ran} {left} {r} {after} s back e c =
+      rw (eq-eqb _ _ s, ← c, ← e) (go (left-alone cpu w (runOf budget cpu w) e) (ℕ-discrete (ran .refusal) 0))
     where
-      go : Dec (q .result .refusal ≡ 0) → called r after (q .left) ≡ handedBack registers w q
-      go (yes z) = rw (eq-eqb _ _ z) (rw (eq-eqb _ _ z) at (back (q .left)))
-      go (no n) = rw (ne-eqb _ _ n, same n) (rw (ne-eqb _ _ n) at (back w))
-
-  pub not-seven : (answer : Processor → World → Outcome World Ran) {r : ℕ}
-      → (length registers ≡ 7 → ⊥) → r ≡ packed 6 0 0 → called r registers w ≡ onBytes answer registers w
-  not-seven answer n e = rw (e, ne-eqb _ _ n)
-
-  pub seven : (done : Processor → World → Outcome World (Progress Processor)) {cpu : Processor} {r : ℕ} {after : List ℕ} {q : Outcome World Ran}
-      → length registers ≡ 7 → cpu ≡ registersOf registers → q ≡ answered cpu w (done cpu w)
-      → ((u : World) → called r after u ≡ handedBack registers u (record { result = q .result; left = u }))
-      → called r after (q .left) ≡ onBytes (λ cpu w. answered cpu w (done cpu w)) registers w
-  seven done {cpu} {r} {after} {q} s c e back =
-      rw (eq-eqb _ _ s, ← c, ← e) (handed q back (left-alone cpu w (done cpu w) e))
+      go : ((ran .refusal ≡ 0 → ⊥) → left ≡ w) → Dec (ran .refusal ≡ 0) → called r after left ≡ handedBack registers w (outcome ran left)
+      go same (yes z) = rw (eq-eqb _ _ z) (rw (eq-eqb _ _ z) at (back .whatever left))
+      go same (no n) = rw (ne-eqb _ _ n, same n) (rw (ne-eqb _ _ n) at (back .whatever w))

@@ -38,9 +38,13 @@ handedBack registers w o =
     (called (packed 0 (o .result .stop) (o .result .steps)) (bytesOf (o .result .cpu)) (o .left))
     (called (packed (o .result .refusal) 0 0) registers w)
 
--- What hands back what the engine answered promises, whatever memory and maps are: they are not lent to it.
+-- The engine's answer was handed back into bytes that held one list before and another after it, with the number r: right for whatever
+-- memory and maps, which are not lent to who hands it back.
+pub record Handed (ran : Ran) (before after : List ℕ) (r : ℕ) : Type 0 where
+  pub whatever : (w : World) → called r after w ≡ handedBack before w (outcome ran w)
+
 abbrev pub HandsBack : Ran → Lent → ℕ → Type 0
-HandsBack ran registers r = (w : World) → called r (now (registers .exit)) w ≡ handedBack (now (registers .entry)) w (outcome ran w)
+HandsBack ran registers r = Handed ran (now (registers .entry)) (now (registers .exit)) r
 
 -- Refusal 6 exactly if the registers are not seven bytes, before all others.
 abbrev pub onBytes : (Processor → World → Outcome World Ran) → List ℕ → World → Called

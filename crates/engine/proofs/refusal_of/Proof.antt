@@ -26,16 +26,16 @@ module _ (w : World) where
   none m r s = rw (eq-eqb _ _ m, eq-eqb _ _ r, eq-eqb _ _ s)
 
 returns : tie.Need-returns
-returns c = no-memory _ (c .if1 .taken)
+returns c = search no-memory
 
 returns-2 : tie.Need-returns-2
-returns-2 c = no-reads _ (c .before .if1 .left) (c .if2 .taken)
+returns-2 c = search no-reads
 
 returns-3 : tie.Need-returns-3
-returns-3 c = no-writes _ (c .before .before .if1 .left) (c .before .if2 .left) (c .if3 .taken)
+returns-3 c = search no-writes
 
 returns-4 : tie.Need-returns-4
-returns-4 c = none _ (c .before .before .if1 .left) (c .before .if2 .left) (c .if3 .left)
+returns-4 c = search none
 
 pub refusal-of-spec : {M : Type 1} → statement M
 refusal-of-spec = tie.close (tie.spec returns returns-2 returns-3 returns-4)

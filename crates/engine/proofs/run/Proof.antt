@@ -21,10 +21,10 @@ same-length-3 : tie.Need-same-length-3
 same-length-3 c = search needs
 
 returns : tie.Need-returns
-returns c = refuses _ _ _ (c .before .before .refusal-of .ensures) (c .before .if1 .taken) (c .refused .ensures)
+returns c = search (needs, refuses)
 
 take-steps-requires : tie.Need-take-steps-requires
-take-steps-requires c κs = sized _ (c .before .before .before .before .refusal-of .ensures) (c .before .before .before .if1 .left)
+take-steps-requires c κs = search sized
 
 same-length-4 : tie.Need-same-length-4
 same-length-4 c = search needs
@@ -36,10 +36,7 @@ same-length-6 : tie.Need-same-length-6
 same-length-6 c = search needs
 
 returns-2 : tie.Need-returns-2
-returns-2 c =
-    accepts _ _ _ (c .before .before .before .before .before .before .before .before .before .before .before .refusal-of .ensures)
-    (c .before .before .before .before .before .before .before .before .before .before .if1 .left)
-    (c .before .before .before .before .before .before .take-steps .ensures)
+returns-2 c = search (needs, accepts)
 
 pub run-spec : {M : Type 1} → statement M
 run-spec =

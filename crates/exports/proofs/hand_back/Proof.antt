@@ -5,27 +5,26 @@ use mathlib.Core.Path.{_≡_}
 use mathlib.Core.List.{List}
 use borrow.Author.Needs.{needs}
 use borrow.Author.Tests.{eq-eqb, ne-eqb}
-use Rattle.memory.specs.World.{World}
 use Rattle.state.specs.Registers.{bytesOf}
 use Rattle.engine.specs.declared.Ran.{Ran}
-use Rattle.exports.specs.Calls.{packed, called, handedBack}
+use Rattle.exports.specs.Calls.{packed, Handed}
 use Rattle.exports.proofs.hand_back.Statement.{statement}
 use Rattle.exports.proofs.hand_back.Tie as tie
 
 module _ (registers : List ℕ) (ran : Ran) where
   refused : {r : ℕ} → (ran .refusal ≡ 0 → ⊥) → r ≡ packed (ran .refusal) 0 0
-      → (w : World) → called r registers w ≡ handedBack registers w (record { result = ran; left = w })
-  refused n e w = rw (e, ne-eqb _ _ n)
+      → Handed ran registers registers r
+  refused n e = record { whatever = λ w. rw (e, ne-eqb _ _ n) }
 
   accepted : {r : ℕ} {after : List ℕ} → ran .refusal ≡ 0 → after ≡ bytesOf (ran .cpu) → r ≡ packed 0 (ran .stop) (ran .steps)
-      → (w : World) → called r after w ≡ handedBack registers w (record { result = ran; left = w })
-  accepted z a e w = rw (e, a, eq-eqb _ _ z)
+      → Handed ran registers after r
+  accepted z a e = record { whatever = λ w. rw (e, a, eq-eqb _ _ z) }
 
 packed-requires : tie.Need-packed-requires
 packed-requires c κs = search needs
 
 returns : tie.Need-returns
-returns c = refused _ (c .before .before .before .args .ran) (c .before .if1 .taken) (c .packed .ensures)
+returns c = search (needs, refused)
 
 set-registers-requires : tie.Need-set-registers-requires
 set-registers-requires c κs = search needs
@@ -37,11 +36,7 @@ same-length : tie.Need-same-length
 same-length c = search needs
 
 returns-2 : tie.Need-returns-2
-returns-2 c =
-    accepted _ (c .before .before .before .before .before .before .before .before .args .ran)
-    (c .before .before .before .before .before .before .if1 .left)
-    (c .before .before .before .set-registers .ensures)
-    (c .packed2 .ensures)
+returns-2 c = search (needs, accepted)
 
 pub hand-back-spec : {M : Type 1} → statement M
 hand-back-spec =

@@ -1,8 +1,6 @@
 -- The number is that of the count's own answer.
 -- Assumes nothing.
-use mathlib.Core.Path.{ap, _∙_}
 use borrow.Author.Needs.{needs}
-use Rattle.exports.specs.Calls.{countNumber}
 use Rattle.exports.proofs.spc700_count.Statement.{statement}
 use Rattle.exports.proofs.spc700_count.Tie as tie
 
@@ -13,7 +11,7 @@ packed-requires : tie.Need-packed-requires
 packed-requires c κs = search needs
 
 returns : tie.Need-returns
-returns c = c .packed .ensures ∙ ap countNumber (c .before .count .ensures)
+returns c = cc
 
 pub spc700-count-spec : {M : Type 1} → statement M
 spc700-count-spec = tie.close (tie.spec count-requires packed-requires returns)

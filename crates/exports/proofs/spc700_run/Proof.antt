@@ -1,7 +1,6 @@
 -- Past the test of the registers' length it is the engine's run, handed back.
 -- Assumes nothing.
 use borrow.Author.Needs.{needs}
-use Rattle.engine.specs.Entry.{runOf, runAnswer}
 use Rattle.exports.proofs.Laws.{not-seven, seven}
 use Rattle.exports.proofs.spc700_run.Statement.{statement}
 use Rattle.exports.proofs.spc700_run.Tie as tie
@@ -10,7 +9,7 @@ packed-requires : tie.Need-packed-requires
 packed-requires c κs = search needs
 
 returns : tie.Need-returns
-returns c = not-seven _ _ (runAnswer (c .before .before .before .before .before .before .args .budget)) (c .before .if1 .taken) (c .packed .ensures)
+returns c = search (needs, not-seven)
 
 registers-requires : tie.Need-registers-requires
 registers-requires c κs = search needs
@@ -34,11 +33,7 @@ same-length-4 : tie.Need-same-length-4
 same-length-4 c = search needs
 
 returns-2 : tie.Need-returns-2
-returns-2 c =
-    let ran = c .before .before .before .before .before .before .before .before .before .before in
-    let read = ran .before .before .before .before in
-    seven _ _ (runOf (read .before .before .before .before .before .before .before .args .budget)) (read .before .before .if1 .left) (read .registers .ensures) (ran .run .ensures)
-    (c .before .before .hand-back .ensures)
+returns-2 c = search (needs, seven)
 
 pub spc700-run-spec : {M : Type 1} → statement M
 spc700-run-spec =

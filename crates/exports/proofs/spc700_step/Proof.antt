@@ -1,17 +1,25 @@
--- Past the test of the registers' length it is the engine's step, handed back.
+-- Past the test of the registers' length it is the engine's step, which is its run of budget 1, handed back.
 -- Assumes nothing.
 use borrow.Author.Needs.{needs}
-use Rattle.memory.specs.Access.{perform}
-use Rattle.engine.specs.Entry.{countedStep, stepAnswer}
+use mathlib.Core.Path.{_≡_, _∙_}
+use Rattle.memory.specs.World.{World}
+use Rattle.memory.specs.Access.{Outcome}
+use Rattle.processor.specs.declared.Processor.{Processor}
+use Rattle.engine.specs.Entry.{stepAnswer, runAnswer}
+use Rattle.engine.specs.Theorems.{step-is-run-of-one}
+use Rattle.engine.specs.declared.Ran.{Ran}
 use Rattle.exports.proofs.Laws.{not-seven, seven}
 use Rattle.exports.proofs.spc700_step.Statement.{statement}
 use Rattle.exports.proofs.spc700_step.Tie as tie
+
+as-run : {q : Outcome World Ran} (cpu : Processor) (w : World) → q ≡ stepAnswer cpu w → q ≡ runAnswer 1 cpu w
+as-run cpu w e = e ∙ step-is-run-of-one cpu w
 
 packed-requires : tie.Need-packed-requires
 packed-requires c κs = search needs
 
 returns : tie.Need-returns
-returns c = not-seven _ _ stepAnswer (c .before .if1 .taken) (c .packed .ensures)
+returns c = rw step-is-run-of-one (search (needs, not-seven))
 
 registers-requires : tie.Need-registers-requires
 registers-requires c κs = search needs
@@ -35,11 +43,7 @@ same-length-4 : tie.Need-same-length-4
 same-length-4 c = search needs
 
 returns-2 : tie.Need-returns-2
-returns-2 c =
-    let ran = c .before .before .before .before .before .before .before .before .before .before in
-    let read = ran .before .before .before .before in
-    seven _ _ (λ cpu w. perform (countedStep cpu) w) (read .before .before .if1 .left) (read .registers .ensures) (ran .step .ensures)
-    (c .before .before .hand-back .ensures)
+returns-2 c = rw step-is-run-of-one (search (needs, seven, as-run))
 
 pub spc700-step-spec : {M : Type 1} → statement M
 spc700-step-spec =

@@ -1,7 +1,7 @@
 -- The opcode, then what its row reads.
 -- Assumes nothing.
 use borrow.Author.Needs.{needs}
-use Rattle.memory.proofs.Laws.{chain, ends}
+use Rattle.memory.proofs.Laws.{accesses}
 use Rattle.instructions.specs.Step.{readFor, beginOf}
 use Rattle.engine.proofs.phases.begin.Statement.{statement}
 use Rattle.engine.proofs.phases.begin.Tie as tie
@@ -17,9 +17,7 @@ same-length c = search needs
 
 returns : tie.Need-returns
 unfolding readFor beginOf
-returns c =
-    chain _ (c .before .before .before .before .before .before .before .fetch-u8 .ensures)
-    (chain _ (c .before .before .gather .ensures) ends)
+returns c = search accesses
 
 pub begin-spec : {M : Type 1} → statement M
 begin-spec = tie.close (tie.spec fetch-u8-requires gather-requires same-length returns)

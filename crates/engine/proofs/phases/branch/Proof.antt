@@ -1,8 +1,9 @@
 -- Taken, it is the branch itself; else nothing is done.
 -- Assumes nothing.
 use borrow.Author.Needs.{needs}
-use Rattle.memory.proofs.Laws.{ends}
 use Rattle.instructions.specs.Step.{branchOf}
+use Rattle.memory.proofs.Laws.{accesses}
+use Rattle.engine.proofs.Laws.{branch-as}
 use Rattle.engine.proofs.phases.branch.Statement.{statement}
 use Rattle.engine.proofs.phases.branch.Tie as tie
 
@@ -14,11 +15,11 @@ same-length c = search needs
 
 returns : tie.Need-returns
 unfolding branchOf
-returns c = rw (c .before .before .before .before .if1 .taken) (c .before .before .branch-imm .ensures)
+returns c = search (accesses, branch-as)
 
 returns-2 : tie.Need-returns-2
 unfolding branchOf
-returns-2 c = rw (c .if1 .left) ends
+returns-2 c = search (accesses, branch-as)
 
 pub branch-spec : {M : Type 1} → statement M
 branch-spec = tie.close (tie.spec branch-imm-requires same-length returns returns-2)

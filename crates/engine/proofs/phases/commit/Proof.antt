@@ -1,8 +1,9 @@
 -- Each case of what is to be stored is one line of the definition.
 -- Assumes nothing.
 use borrow.Author.Needs.{needs}
-use Rattle.memory.proofs.Laws.{put-then, ends}
 use Rattle.instructions.specs.Step.{commitOf}
+use Rattle.memory.proofs.Laws.{accesses, ends, put-then}
+use Rattle.engine.proofs.Laws.{commit-as}
 use Rattle.engine.proofs.phases.commit.Statement.{statement}
 use Rattle.engine.proofs.phases.commit.Tie as tie
 
@@ -44,7 +45,7 @@ interrupt-requires c κs = search needs
 
 returns : tie.Need-returns
 unfolding commitOf
-returns c = rw (c .enum-told .given .1) ends
+returns c = search (accesses, commit-as)
 
 same-length : tie.Need-same-length
 same-length c = search needs
@@ -54,7 +55,7 @@ same-length-2 c = search needs
 
 returns-2 : tie.Need-returns-2
 unfolding commitOf
-returns-2 c = rw (c .before .before .before .before .before .before .before .before .stores .given .1) (put-then (c .before .before .before .before .store .ensures) ends)
+returns-2 c = search (accesses, commit-as)
 
 same-length-3 : tie.Need-same-length-3
 same-length-3 c = search needs
@@ -64,9 +65,7 @@ same-length-4 c = search needs
 
 returns-3 : tie.Need-returns-3
 unfolding commitOf
-returns-3 c =
-    rw (c .before .before .before .before .before .before .before .before .before .before .before .before .before .before .before .stores2 .given .1)
-    (put-then (c .before .before .before .before .before .before .before .before .before .before .before .store2 .ensures) (put-then (c .before .before .before .before .store3 .ensures) ends))
+returns-3 c = search (needs, commit-as, put-then, ends)
 
 same-length-5 : tie.Need-same-length-5
 same-length-5 c = search needs
@@ -76,7 +75,7 @@ same-length-6 c = search needs
 
 returns-4 : tie.Need-returns-4
 unfolding commitOf
-returns-4 c = rw (c .before .before .before .before .before .before .before .before .stores3 .given .1) (c .before .before .before .before .push-to-stack-u8 .ensures)
+returns-4 c = search (accesses, commit-as)
 
 same-length-7 : tie.Need-same-length-7
 same-length-7 c = search needs
@@ -86,7 +85,7 @@ same-length-8 c = search needs
 
 returns-5 : tie.Need-returns-5
 unfolding commitOf
-returns-5 c = rw (c .before .before .before .before .before .before .before .before .stores4 .given .1) (c .before .before .before .before .call .ensures)
+returns-5 c = search (accesses, commit-as)
 
 same-length-9 : tie.Need-same-length-9
 same-length-9 c = search needs
@@ -96,7 +95,7 @@ same-length-10 c = search needs
 
 returns-6 : tie.Need-returns-6
 unfolding commitOf
-returns-6 c = rw (c .before .before .before .before .before .before .before .before .stores5 .given .1) (c .before .before .before .before .interrupt .ensures)
+returns-6 c = search (accesses, commit-as)
 
 pub commit-spec : {M : Type 1} → statement M
 commit-spec =

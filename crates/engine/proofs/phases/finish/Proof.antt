@@ -1,7 +1,7 @@
 -- The stores, then the branch.
 -- Assumes nothing.
 use borrow.Author.Needs.{needs}
-use Rattle.memory.proofs.Laws.{chain, ends}
+use Rattle.memory.proofs.Laws.{accesses}
 use Rattle.instructions.specs.Step.{finishOf}
 use Rattle.engine.proofs.phases.finish.Statement.{statement}
 use Rattle.engine.proofs.phases.finish.Tie as tie
@@ -23,9 +23,7 @@ same-length-3 c = search needs
 
 returns : tie.Need-returns
 unfolding finishOf
-returns c =
-    chain _ (c .before .before .before .before .before .before .before .before .before .before .commit .ensures)
-    (chain _ (c .before .before .branch .ensures) ends)
+returns c = search accesses
 
 pub finish-spec : {M : Type 1} → statement M
 finish-spec =

@@ -1,8 +1,8 @@
 -- What is read, what is made of it, what is stored.
 -- Assumes nothing.
 use borrow.Author.Needs.{needs}
-use Rattle.memory.proofs.Laws.{chain}
-use Rattle.instructions.specs.Step.{stepOf}
+use Rattle.instructions.specs.Step.{finishOf, stepOf}
+use Rattle.memory.proofs.Laws.{accesses, by}
 use Rattle.engine.proofs.phases.instruction.Statement.{statement}
 use Rattle.engine.proofs.phases.instruction.Tie as tie
 
@@ -26,9 +26,7 @@ same-length-3 c = search needs
 
 returns : tie.Need-returns
 unfolding stepOf
-returns c =
-    chain _ (c .before .before .before .before .before .before .before .before .before .before .before .before .before .before .begin .ensures)
-    (rw (← c .before .before .before .before .before .before .before .before .before .before .effect-of .ensures) (c .before .before .before .before .before .before .finish .ensures))
+returns c = search (accesses, by finishOf)
 
 pub instruction-spec : {M : Type 1} → statement M
 instruction-spec =

@@ -1,7 +1,7 @@
 -- The return PC, then the status byte, and PC goes to the target.
 -- Assumes nothing.
 use borrow.Author.Needs.{needs}
-use Rattle.memory.proofs.Laws.{chain, ends}
+use Rattle.memory.proofs.Laws.{accesses}
 use Rattle.instructions.specs.Step.{commitOf}
 use Rattle.engine.proofs.phases.interrupt.Statement.{statement}
 use Rattle.engine.proofs.phases.interrupt.Tie as tie
@@ -20,9 +20,7 @@ same-length-2 c = search needs
 
 returns : tie.Need-returns
 unfolding commitOf
-returns c =
-    chain _ (c .before .before .before .before .before .before .before .before .before .before .before .push-to-stack-u16 .ensures)
-    (chain _ (c .before .before .before .before .push-to-stack-u8 .ensures) ends)
+returns c = search accesses
 
 pub interrupt-spec : {M : Type 1} → statement M
 interrupt-spec =
