@@ -1,4 +1,4 @@
--- What each mode reads, in this order: operand bytes, pointer, data (source, then target; low, then high), vector.
+-- What each mode reads, and in which order: first what stands behind the opcode, then a pointer, then data, and a vector last.
 use Prim.Native.Nat.{ℕ, _+_, _-_, _*_, _/_, _^_}
 use Rattle.memory.specs.Access.{Access, then}
 use Rattle.memory.specs.Access.Access.{done, readAt}
@@ -58,7 +58,7 @@ gatherOf toAbsoluteY opcode cpu = then (mode.absolute (cpu .y) cpu) target
 gatherOf toX opcode cpu = target (mode.indirect (cpu .x) cpu)
 gatherOf toPointerX opcode cpu = then (mode.pointerX cpu) target
 gatherOf toPointerY opcode cpu = then (mode.pointerY cpu) target
--- d,d has the source first; d,#i has the immediate first; (X),(Y) reads (Y) first.
+-- Two operands: what is the source comes first, be it an address, a byte behind the opcode or (Y).
 gatherOf directDirect opcode cpu = then (mode.direct 0 cpu) (λ s. then (mode.direct 0 (s .cpu)) (bothLoaded (s .at)))
 gatherOf directToDirect opcode cpu = then (mode.direct 0 cpu) (λ s. then (mode.direct 0 (s .cpu)) (sourceLoaded (s .at)))
 gatherOf directImmediate opcode cpu =
@@ -74,7 +74,7 @@ gatherOf toDirectWord opcode cpu = then (mode.directWord cpu) (λ d. done (opera
 -- Mb names a bit of a byte: both, the bit by its value.
 gatherOf memoryBit opcode cpu =
     then (mode.bitOperand cpu) (λ m. readAt (m .at) (λ byte. done (operands (m .cpu) (m .at) 0 byte (2 ^ (m .bit)))))
--- Where to go. PCALL u goes to 0xFF00 + u, TCALL n to the word at 0xFFDE - 2n, BRK to the word at 0xFFDE.
+-- Where to go: an operand word, the word at one, a place of the last page (PCALL), a word of the table below 0xFFE0 (TCALL, BRK).
 gatherOf word opcode cpu = then (mode.absolute 0 cpu) target
 gatherOf wordAtX opcode cpu = then (mode.absolutePointer cpu) target
 gatherOf upperPage opcode cpu = then (mode.fetch cpu) (λ f. done (operands (f .cpu) (0xFF00 + f .byte) 0 0 0))

@@ -13,7 +13,7 @@ pub record World : Type 0 where
 abbrev pub world : List ℕ → List ℕ → List ℕ → World
 world memory reads writes = record { memory = memory; reads = reads; writes = writes }
 
--- Memory is 65,536 bytes, each map is 8,192 bytes.
+-- The lengths: a byte of memory and a bit of each map for every address.
 pub record Sized (w : World) : Type 0 where
   pub memory : length (w .memory) ≡ 65536
   pub reads : length (w .reads) ≡ 8192

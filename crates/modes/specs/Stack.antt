@@ -1,4 +1,5 @@
--- The stack, at 0x100 + SP: store, then decrease; increase, then read. A word is pushed high byte first.
+-- The stack lies in page 1. SP points at the free place: a push fills it and moves down, a pull moves up and reads. Of a word the high
+-- byte is pushed first.
 use Prim.Native.Nat.{ℕ, _+_, _/_, _%_}
 use Rattle.memory.specs.Access.{Access, then}
 use Rattle.memory.specs.Access.Access.{done, readAt, storeAt}

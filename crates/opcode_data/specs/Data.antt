@@ -90,7 +90,7 @@ padded name = take 5 (name ++ replicate 5 (code " "))
 abbrev pub listed : List ℕ → List AddressMode → OpcodeData
 listed name modes = record { name = padded name; modes = recordOf modes }
 
--- The name is the constant up to its first underscore, and the suffixes behind it name the modes.
+-- A constant's words: the first is the instruction's name, the others name its modes.
 abbrev pub byWords : List (List ℕ) → OpcodeData
 byWords [] = listed [] []
 byWords (name ∷ suffixes) = listed name (modesOf suffixes)
