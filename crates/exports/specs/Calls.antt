@@ -43,6 +43,7 @@ handedBack registers w o =
 pub record Handed (ran : Ran) (before after : List ℕ) (r : ℕ) : Type 0 where
   pub whatever : (w : World) → called r after w ≡ handedBack before w (outcome ran w)
 
+-- the contract of who hands it back
 abbrev pub HandsBack : Ran → Lent → ℕ → Type 0
 HandsBack ran registers r = Handed ran (now (registers .entry)) (now (registers .exit)) r
 
