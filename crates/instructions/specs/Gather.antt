@@ -1,4 +1,5 @@
--- What each mode reads, and in which order: first what stands behind the opcode, then a pointer, then data, and a vector last.
+-- What each mode reads, and in which order: first what stands behind the opcode, then a pointer, then data, its low byte
+-- before its high one, and a vector last.
 use Prim.Native.Nat.{ℕ, _+_, _-_, _*_, _/_, _^_}
 use Rattle.memory.specs.Access.{Access, then}
 use Rattle.memory.specs.Access.Access.{done, readAt}
