@@ -121,6 +121,24 @@ static void steps(void)
     check("step: it marks 0010 as written, and nothing else", marks(now.writes) == 1 && now.writes[2] == 0x01);
 }
 
+/* MUL of every two bytes, held to C's own product: the library makes it by additions. */
+static void products(void)
+{
+    start(0xCF, 0, 0);
+    int holds = 1;
+    for (unsigned pair = 0; pair < 65536; pair++) {
+        uint8_t a = pair % 256, y = pair / 256;
+        unsigned product = y * a;
+        uint8_t high = product / 256, flags = high >= 0x80 ? 0x80 : high == 0 ? 0x02 : 0;
+        const uint8_t given[] = {a, 0x5A, y, 0xEF, 0x00, 0x02, 0x7D};
+        const uint8_t expected[] = {product % 256, 0x5A, high, 0xEF, 0x01, 0x02, 0x7D | flags};
+        for (size_t i = 0; i < sizeof given; i++)
+            now.registers[i] = given[i];
+        holds &= step(RIGHT) == answer(0, 0, 1) && same(now.registers, expected, sizeof expected);
+    }
+    check("step: MUL of every two bytes", holds);
+}
+
 /* A step and a run that are told these lengths are refused with this number, and change nothing. */
 static void refuses(const char *what, struct lengths n, uint64_t refusal)
 {
@@ -189,6 +207,7 @@ int main(void)
 {
     runs();
     steps();
+    products();
     refusals();
     counts();
     texts();
