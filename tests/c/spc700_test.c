@@ -130,7 +130,7 @@ static void products(void)
         uint8_t a = pair % 256, y = pair / 256;
         unsigned product = y * a;
         uint8_t high = product / 256, flags = high >= 0x80 ? 0x80 : high == 0 ? 0x02 : 0;
-        const uint8_t given[] = {a, 0x5A, y, 0xEF, 0x00, 0x02, 0x7D};
+        const uint8_t given[] = {a, 0x5A, y, 0xEF, 0x00, 0x02, 0xFF ^ flags};
         const uint8_t expected[] = {product % 256, 0x5A, high, 0xEF, 0x01, 0x02, 0x7D | flags};
         for (size_t i = 0; i < sizeof given; i++)
             now.registers[i] = given[i];

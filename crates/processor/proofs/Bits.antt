@@ -3,12 +3,12 @@
 use Prim.Native.Nat.{ℕ, _+_, _*_, _/_, _%_, _^_, _<_, _≤_}
 use mathlib.Core.Path.{_≡_, sym, _∙_}
 use mathlib.Core.Logic.{⊎-elim}
-use native.Mathlib.Nat.{add-comm, add-zero, zero-add, mul-add, mul-assoc, mul-left-comm, mul-zero, zero-mul, one-mul, mod-one, mod-le, eq-or-lt-of-le}
+use native.Mathlib.Nat.{add-comm, add-zero, zero-add, mul-add, mul-assoc, mul-left-comm, mul-zero, zero-mul, one-mul}
+use native.Mathlib.Nat.{mod-one, mod-lt, mul-le-mul-left, eq-or-lt-of-le}
 use native.Mathlib.Omega.{arith}
-use lib.Pow.{split, mod-pow-add, pow-add, shl-exact, shr-shr}
+use lib.Pow.{pow-pos, split, mod-pow-add, pow-add, shl-exact, shr-shr}
 use mir.Syntax.{w16}
 use mir.Val.{Fits}
-use Rattle.processor.proofs.Bounds.{product-fits}
 
 -- With one bit more: y times the low k + 1 bits of a is y times the low k bits, and y at the place of bit k if that bit is set.
 pub product-bit : (y a k : ℕ) → y * (a % 2 ^ (k + 1)) ≡ y * (a % 2 ^ k) + (a / 2 ^ k % 2) * (y * 2 ^ k)
@@ -70,12 +70,14 @@ module _ {y a sum shifted bits : ℕ} (s : Summed y a sum shifted bits) where
   pub passed : {more : ℕ} → more ≡ sum → (bits % 2 ≡ 1 → ⊥) → a < 256 → 0 < bits → Summed y a more (shifted + shifted) (bits / 2)
   passed e other = next (e ∙ clear other)
 
-  -- the sum is part of the product, and fits as that does
-  pub sum-fits : y < 256 → a < 256 → bits % 2 ≡ 1 → Fits w16 (sum + shifted)
-  sum-fits g h one = rw (set one) (product-fits y (a % 2 ^ (s .k + 1)) g (omega (arith, mod-le a (2 ^ (s .k + 1)))))
-
   pub doubled-fits : y < 256 → a < 256 → 0 < bits → Fits w16 (shifted + shifted)
   doubled-fits g h left = omega (arith, doubled, shl-exact 8 (s .k + 1) 16 g (omega (arith, not-all h left)))
+
+  -- the sum is at most y at the place of bit k, whichever bits are set
+  pub sum-fits : y < 256 → a < 256 → 0 < bits → Fits w16 (sum + shifted)
+  sum-fits g h left =
+      let low : y * (a % 2 ^ s .k) ≤ y * 2 ^ s .k = mul-le-mul-left y (omega (arith, mod-lt a {m = 2 ^ s .k} (pow-pos (s .k)))) in
+      omega (arith, doubled-fits g h left, low, s .sum-is, s .shifted-is)
 
   -- where no bit is left the low k bits are all of a
   pub whole : bits ≤ 0 → sum ≡ y * a

@@ -1,4 +1,4 @@
--- The loop's invariant is `Summed`: after k bits the sum is `y` times the low k bits of `a`. Each round halves what is left of `a`.
+-- The invariant is `Summed`; the measure is what is left of `a`, which each round halves.
 -- Assumes nothing.
 use mathlib.Core.Logic.{⊎-elim}
 use native.Mathlib.Omega.{arith}
