@@ -70,6 +70,33 @@ fn single_modes(to: &mut dyn FnMut(Case)) {
     }
 }
 
+// An instruction and its two operand bytes.
+fn instruction(opcode: u8, first: u8, second: u8) -> Case {
+    let mut case = [0; 16];
+    case[..4].copy_from_slice(&[4, opcode, first, second]);
+    case
+}
+
+// So many instructions of each opcode, with operand bytes at random.
+fn instructions(count: usize, numbers: &mut Numbers, to: &mut dyn FnMut(Case)) {
+    for opcode in 0..=255 {
+        for _ in 0..count {
+            let first = numbers.byte();
+            to(instruction(opcode, first, numbers.byte()));
+        }
+    }
+}
+
+// CBNE, DBNZ, BBS and BBC with every two operand bytes.
+fn branches(to: &mut dyn FnMut(Case)) {
+    for opcode in (0..=255).filter(|opcode| opcode % 16 == 3 || [0x2E, 0x6E, 0xDE, 0xFE].contains(opcode)) {
+        for pair in 0..=65535u16 {
+            let [first, second] = pair.to_le_bytes();
+            to(instruction(opcode, first, second));
+        }
+    }
+}
+
 // Every pair of bytes for each method, under flag bytes that set each flag and its neighbour differently.
 fn pairs(to: &mut dyn FnMut(Case)) {
     for flags in [0x00, 0x01, 0x08, 0x09, 0x55, 0xAA, 0xF6, 0xFF] {
@@ -116,6 +143,7 @@ pub fn sample(to: &mut dyn FnMut(Case)) {
     texts(20, &mut numbers, to);
     lists(1, &mut numbers, to);
     random(40, &mut numbers, to);
+    instructions(1, &mut numbers, to);
 }
 
 pub fn all(to: &mut dyn FnMut(Case)) {
@@ -127,4 +155,6 @@ pub fn all(to: &mut dyn FnMut(Case)) {
     single_modes(to);
     pairs(to);
     random(100_000, &mut numbers, to);
+    instructions(1_000, &mut numbers, to);
+    branches(to);
 }

@@ -11,14 +11,36 @@ def status(answer, n, z, c):
     return f"{answer[:-2]}{byte:02X}"
 
 
-def opcode(case, answer):
-    """D3 and D4: the lists of modes of 35 opcodes."""
-    code, words = case[1], answer.split(" ")
+def listed(code, modes, carry):
+    """D3 and D4: the lists of modes of 35 opcodes. The label of an opcode or None, and our list from the crate's."""
     if code & 0x1F in (0x02, 0x12, 0x03, 0x13):
-        return "D3", " ".join([words[0], words[2], words[1]] + words[3:])
+        return "D3", [modes[1], modes[0]] + modes[2:]
     if code in (0x4A, 0x6A, 0x8A):
-        return "D4", " ".join([words[0], "1400", words[1]])
-    return None, answer
+        return "D4", [carry] + modes
+    return None, modes
+
+
+def opcode(case, answer):
+    """The name and the modes of an opcode."""
+    name, *modes = answer.split(" ")
+    label, ours = listed(case[1], modes, "1400")
+    return label, " ".join([name] + ours)
+
+
+def exchanged(operands):
+    """The first and the last of a branch's operands, `$10` and `+5`, each with the byte of the other."""
+    direct, displacement = int(operands[0][1:], 16), int(operands[-1])
+    return [f"${displacement & 0xFF:02X}"] + operands[1:-1] + [f"{direct - 2 * (direct & 0x80):+}"]
+
+
+def instruction(case, answer):
+    """The text of an instruction: D3 and D4, and D12, the order of the operand bytes of CBNE, DBNZ, BBS and BBC."""
+    code, first, second = case[1:4]
+    name, blank, text = answer.partition(" ")
+    label, ours = listed(code, text.split(", "), "C")
+    if (code & 0x0F == 0x03 or code in (0x2E, 0x6E, 0xDE)) and first != second:
+        label, ours = "D12", exchanged(ours)
+    return label, name + blank + ", ".join(ours)
 
 
 def cmpw_flags(ya, word):
@@ -37,6 +59,8 @@ def expected(case, answer):
     """The label of a case or None, and our answer, from the crate's answer."""
     if case[0] == 2:
         return opcode(case, answer)
+    if case[0] == 4:
+        return instruction(case, answer)
     if case[0] == 40:
         return compared(case, answer)
     return None, answer

@@ -43,6 +43,7 @@ fn answer(case: &Case) -> String {
         1 => registers(&given).to_string(),
         2 => modes::opcode(given[1]),
         3 => modes::format(&given),
+        4 => modes::instruction(given[1], &given[2..4]),
         _ => processor::reach::method(given[0], registers(&given), given[8], given[9]),
     })
     .unwrap_or("panic".to_string())

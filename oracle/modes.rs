@@ -1,4 +1,4 @@
-// Address modes by number, in the order of the crate's enum, and the two functions on them.
+// Address modes by number, in the order of the crate's enum, the two functions on them, and the line that both make of an instruction.
 use crate::{AddressMode, Case, OpcodeData, format_address_modes};
 use AddressMode::*;
 
@@ -47,4 +47,11 @@ pub fn opcode(byte: u8) -> String {
 pub fn format(case: &Case) -> String {
     let all: Vec<AddressMode> = (0..3).map(|i| mode(case[2 + 2 * i], case[3 + 2 * i])).collect();
     format_address_modes(&all[..case[1] as usize], &case[9..9 + case[8] as usize])
+}
+
+// The name and, behind a blank, the text of the modes with the operand bytes as they stand in memory. The crate has no function for this.
+pub fn instruction(byte: u8, operands: &[u8]) -> String {
+    let data = OpcodeData::from_opcode(byte);
+    let text = format_address_modes(&data.addr_modes, operands);
+    format!("{} {}", data.name, text).trim_end().to_string()
 }

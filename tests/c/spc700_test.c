@@ -4,6 +4,7 @@
 
 /* Declared, not included: a compiler for x86-64 may come without the headers of a C library for it. */
 int printf(const char *format, ...);
+int snprintf(char *to, size_t room, const char *format, ...);
 
 /* All that a call is lent. Each region has a byte more than it needs, so that too long a region can be lent, too. */
 struct lent {
@@ -176,7 +177,7 @@ static void counts(void)
 }
 
 /* spc700_text on a buffer of 80 bytes of A5, told another length, answers so and leaves these first bytes and A5 behind them. */
-static void text(const char *what, const uint8_t *code, size_t length, size_t room, uint64_t expected, const char *said)
+static int says(const uint8_t *code, size_t length, size_t room, uint64_t expected, const char *said)
 {
     uint8_t buffer[80];
     fill(buffer, 0xA5, sizeof buffer);
@@ -186,21 +187,75 @@ static void text(const char *what, const uint8_t *code, size_t length, size_t ro
         holds &= buffer[at] == (uint8_t)said[at];
     for (; at < sizeof buffer; at++)
         holds &= buffer[at] == 0xA5;
-    check(what, holds);
+    return holds;
+}
+
+static void text(const char *what, const uint8_t *code, size_t length, size_t room, uint64_t expected, const char *said)
+{
+    check(what, says(code, length, room, expected, said));
 }
 
 static void texts(void)
 {
-    static const uint8_t code[] = {0xE8, 0x7F, 0xFF}, longer[] = {0x8F, 0x10, 0x20};
+    static const uint8_t code[] = {0xE8, 0x7F, 0xFF}, longer[] = {0x8F, 0x10, 0x20}, branch[] = {0x2E, 0x10, 0x05};
     text("text: an instruction, and nothing behind it", code, 2, 80, answer(0, 0, 11), "MOV A, #$7F");
     text("text: spare bytes are ignored", code, 3, 80, answer(0, 0, 11), "MOV A, #$7F");
     text("text: three bytes", longer, 3, 80, answer(0, 0, 13), "MOV $20, #$10");
+    text("text: the direct page byte before the displacement", branch, 3, 80, answer(0, 0, 12), "CBNE $10, +5");
+    text("text: refused 4: a branch without its displacement", branch, 2, 80, answer(SPC700_CUT, 0, 0), "");
     text("text: just room enough", code, 2, 11, answer(0, 0, 11), "MOV A, #$7F");
     text("text: refused 3: a byte too little room", code, 2, 10, answer(SPC700_NO_ROOM, 0, 0), "");
     text("text: refused 3: no room", code, 2, 0, answer(SPC700_NO_ROOM, 0, 0), "");
     text("text: refused 4: a byte too few", code, 1, 80, answer(SPC700_CUT, 0, 0), "");
     text("text: refused 4: no bytes", code, 0, 80, answer(SPC700_CUT, 0, 0), "");
     text("text: refused 4 before 3", code, 1, 0, answer(SPC700_CUT, 0, 0), "");
+}
+
+/* The one address of page 0 that is marked as read. */
+static unsigned read_in_page_0(void)
+{
+    for (unsigned at = 0; at < 256; at++)
+        if (now.reads[at / 8] >> at % 8 & 1)
+            return at;
+    return 256;
+}
+
+/* A branch on a direct page cell at 0200: its text names the cell that a step reads, and how far the step then goes. `set` is a cell for
+ * which the branch is taken, `format` is the text with the cell and the distance left open. */
+static int as_the_step(const uint8_t *code, uint8_t set, const char *format)
+{
+    start(code[0], code[1], code[2]);
+    fill(now.memory, set, 256);
+    if (step(RIGHT) != answer(0, 0, 1))
+        return 0;
+    int distance = (now.registers[4] | now.registers[5] << 8) - 0x203;
+    char expected[80];
+    int length = snprintf(expected, sizeof expected, format, read_in_page_0(), distance);
+    return marks(now.reads) == 4 && says(code, 3, 80, answer(0, 0, length), expected);
+}
+
+/* Every branch on a direct page cell, each operand byte at 64 values, the two never equal. */
+static void branches(void)
+{
+    static const char *cbne[] = {"CBNE $%02X, %+d", "CBNE $%02X, X, %+d"};
+    int compared = 1, counted = 1, tested = 1;
+    for (unsigned i = 0; i < 64; i++) {
+        uint8_t direct = 4 * i + 1, displacement = 6 * i + 128;
+        compared &= as_the_step((uint8_t[]){0x2E, direct, displacement}, 0, cbne[0]);
+        compared &= as_the_step((uint8_t[]){0xDE, direct, displacement}, 0, cbne[1]);
+        counted &= as_the_step((uint8_t[]){0x6E, direct, displacement}, 0, "DBNZ $%02X, %+d");
+        for (unsigned bit = 0; bit < 8; bit++) {
+            char format[] = "BB? $%02X, bit0, %+d";
+            format[14] = '0' + bit;
+            format[2] = 'S';
+            tested &= as_the_step((uint8_t[]){bit << 5 | 0x03, direct, displacement}, 0xFF, format);
+            format[2] = 'C';
+            tested &= as_the_step((uint8_t[]){bit << 5 | 0x13, direct, displacement}, 0, format);
+        }
+    }
+    check("text: CBNE as the step reads it", compared);
+    check("text: DBNZ as the step reads it", counted);
+    check("text: BBS and BBC as the step reads them", tested);
 }
 
 int main(void)
@@ -211,6 +266,7 @@ int main(void)
     refusals();
     counts();
     texts();
+    branches();
     printf("exports: %d of %d checks hold\n", checks - failures, checks);
     return failures > 0;
 }

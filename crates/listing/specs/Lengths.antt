@@ -11,24 +11,24 @@ use Rattle.laws.specs.Below.{most-below}
 use Rattle.laws.specs.Bytes.{Bytes}
 use Rattle.opcodes.specs.Opcodes.{constants}
 use Rattle.opcode_data.specs.Data.{dataOf}
-use Rattle.opcode_data.specs.Format.{taken, modesText}
-use Rattle.opcode_data.specs.declared.AddressMode.{AddressMode}
+use Rattle.opcode_data.specs.Format.{textAt}
 use Rattle.opcode_data.proofs.Lengths.{room, length-mode}
 use Rattle.text.specs.Quoted.{text}
-use Rattle.listing.specs.Instruction.{modesAt, lengthOf, letters, operandsText, instructionText, isCut}
+use Rattle.listing.specs.Operands.{Operand}
+use Rattle.listing.specs.Instruction.{operandsAt, lengthOf, letters, joined, operandsText, instructionText, isCut}
 use Rattle.listing.specs.Session.{lineText, turnText, turnBytes, linesOf}
 
 -- ---- one instruction
 
 -- the most bytes that operands can have, with the blank before them and a comma and a blank between two of them
-abbrev operandsRoom : List AddressMode → ℕ
+abbrev operandsRoom : List Operand → ℕ
 operandsRoom [] = 0
-operandsRoom (m ∷ []) = room m + 1
-operandsRoom (m ∷ l ∷ ms) = room m + 2 + operandsRoom (l ∷ ms)
+operandsRoom (o ∷ []) = room (o .mode) + 1
+operandsRoom (o ∷ p ∷ os) = room (o .mode) + 2 + operandsRoom (p ∷ os)
 
 -- the most bytes that an instruction's text can have
 abbrev roomOf : ℕ → ℕ
-roomOf opcode = length (letters (dataOf opcode .name)) + operandsRoom (modesAt opcode)
+roomOf opcode = length (letters (dataOf opcode .name)) + operandsRoom (operandsAt opcode)
 
 -- with the address and the blank before it and the newline behind it
 short-line : (opcode : ℕ) → opcode < 256 → roomOf opcode + 6 ≤ 18 * lengthOf opcode
@@ -40,21 +40,21 @@ unfolding dataOf constants lengthOf
 few-bytes = most-below 256 lengthOf (λ k. 3) tt
 
 module _ (bytes : List ℕ) (small : Bytes bytes) where
-  length-operands : (m : AddressMode) (ms : List AddressMode) → length (modesText (m ∷ ms) bytes) + 1 ≤ operandsRoom (m ∷ ms)
-  length-operands m [] = omega (arith, length-mode m (getD bytes 0 0) (getD bytes 1 0) (small 0))
-  length-operands m (l ∷ ms) =
-      let at = taken (l ∷ ms) in
-      simp length-append
-      (omega (arith, length-mode m (getD bytes at 0) (getD bytes (at + 1) 0) (small at), length-operands l ms))
+  length-operand : (o : Operand) → length (textAt (o .mode) bytes (o .at)) ≤ room (o .mode)
+  length-operand o = length-mode (o .mode) (getD bytes (o .at) 0) (getD bytes (o .at + 1) 0) (small (o .at))
 
-  length-behind : (ms : List AddressMode) → length (operandsText ms bytes) ≤ operandsRoom ms
-  length-behind [] = omega arith
-  length-behind (m ∷ ms) = omega (arith, length-operands m ms)
+  length-joined : (o : Operand) (os : List Operand) → length (joined (o ∷ os) bytes) + 1 ≤ operandsRoom (o ∷ os)
+  length-joined o [] = omega (arith, length-operand o)
+  length-joined o (p ∷ os) = simp length-append (omega (arith, length-operand o, length-joined p os))
+
+  length-operands : (os : List Operand) → length (operandsText os bytes) ≤ operandsRoom os
+  length-operands [] = omega arith
+  length-operands (o ∷ os) = omega (arith, length-joined o os)
 
   length-instruction : (opcode : ℕ) → opcode < 256 → length (instructionText opcode bytes) + 6 ≤ 18 * lengthOf opcode
   unfolding instructionText
   length-instruction opcode h =
-      rw length-append (omega (arith, length-behind (modesAt opcode), short-line opcode h))
+      rw length-append (omega (arith, length-operands (operandsAt opcode), short-line opcode h))
 
   length-line : (address opcode : ℕ) → opcode < 256 → length (lineText address opcode bytes) ≤ 18 * lengthOf opcode
   unfolding lineText

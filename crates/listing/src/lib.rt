@@ -2,12 +2,14 @@
 mod program;
 
 pub use program::session;
-ghost use Prim.Native.Nat.{_≤_};
+ghost use Prim.Native.Nat.{_+_, _≤_};
 ghost use mathlib.Core.Path.{_≡_};
 ghost use Rattle.text.specs.Given.{Gives};
 ghost use Rattle.text.specs.Line.{adds};
 ghost use Rattle.opcode_data.specs.Lists.{listOf};
-ghost use Rattle.listing.specs.Instruction.{fills, filled, lengthOf, letters, instructionText, listedOf};
+ghost use lib.ListN.{length};
+ghost use Rattle.listing.specs.Operands.{fills, filled, branchesOnDirectPage};
+ghost use Rattle.listing.specs.Instruction.{modesAt, lengthOf, letters, instructionText, listedOf};
 use opcode_data::AddressMode;
 use opcode_data::Modes;
 use opcode_data::OpcodeData;
@@ -62,8 +64,20 @@ fn name_on_line(line: Line, name: [u8; 5]) -> Line
     named
 }
 
+// Whether an instruction has a direct page byte and a displacement behind it: CBNE, DBNZ on the direct page, BBS and BBC, which are
+// all that end in 3.
+fn branches_on_direct_page(opcode: u8) -> bool
+    ensures { λ r. ⌜ r ≡ branchesOnDirectPage (modesAt opcode) ⌝ }
+{
+    match opcode {
+        opcodes::CBNE_D_R | opcodes::CBNE_DX_R | opcodes::DBNZ_D_R => true,
+        _ => opcode % 16 == opcodes::BBS_D_R_MASK,
+    }
+}
+
 // A line with an instruction behind it: its name and its operands.
 fn on_line(line: Line, opcode: u8, operands: &[u8]) -> Line
+    requires { ⌜ lengthOf opcode ≤ length (now operands) + 1 ⌝ }
     ensures { λ r. ⌜ r ≡ adds line (instructionText opcode (now (operands .entry))) ⌝ }
 {
     let data = OpcodeData::from_opcode(opcode);
@@ -73,7 +87,14 @@ fn on_line(line: Line, opcode: u8, operands: &[u8]) -> Line
     if modes.count == 0 {
         return named;
     }
-    modes.on_line(named.push(b' '), operands)
+    let start = named.push(b' ');
+    if branches_on_direct_page(opcode) {
+        let direct = operands[0];
+        let displacement = operands[1];
+        // a list is handed its bytes from the last mode to the first
+        return modes.on_line(start, &[displacement, direct]);
+    }
+    modes.on_line(start, operands)
 }
 
 // Gives one instruction's text, from its bytes, into a lent buffer. Refusals: 4 fewer bytes than the instruction has, 3 a buffer

@@ -29,6 +29,7 @@ fn answer(case: [u8; 16]) -> Line {
         1 => registers(case).on_line(line),
         2 => modes::opcode(line, case[1]),
         3 => modes::format(line, case),
+        4 => modes::instruction(line, [case[1], case[2], case[3]]),
         _ => methods::method(line, kind, registers(case), case[8], case[9]),
     }
 }

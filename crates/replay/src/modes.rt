@@ -1,4 +1,4 @@
-// Address modes by number, and the two functions on them.
+// Address modes by number, the two functions on them, and the text of an instruction.
 use opcode_data::AddressMode;
 use opcode_data::Modes;
 use opcode_data::OpcodeData;
@@ -106,5 +106,12 @@ pub fn format(line: Line, case: [u8; 16]) -> Line {
     let bytes = [case[9], case[10], case[11], case[12], case[13], case[14]];
     let mut out = [0u8; 80];
     let written = opcode_data::format_address_modes(modes, &bytes, &mut out);
+    line.text(first(&out, written.length))
+}
+
+// The text of the instruction that three bytes start with.
+pub fn instruction(line: Line, code: [u8; 3]) -> Line {
+    let mut out = [0u8; 80];
+    let written = listing::instruction(&code, &mut out);
     line.text(first(&out, written.length))
 }

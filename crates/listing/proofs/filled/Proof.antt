@@ -4,7 +4,7 @@ use mathlib.Core.Path.{refl}
 use native.Mathlib.Omega.{arith}
 use borrow.Author.Needs.{needs}
 use Rattle.opcode_data.proofs.Lists.{sum-one, sum-two, sum-three}
-use Rattle.listing.specs.Instruction.{fills, filled}
+use Rattle.listing.specs.Operands.{fills, filled}
 use Rattle.listing.proofs.filled.Statement.{statement}
 use Rattle.listing.proofs.filled.Tie as tie
 

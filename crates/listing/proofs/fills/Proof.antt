@@ -14,7 +14,7 @@ use Rattle.opcode_data.specs.declared.AddressMode.{AddressMode}
 use Rattle.opcode_data.proofs.AddressMode.{the-type}
 use Rattle.opcode_data.proofs.Keys.{upFrom, kept, holds-at}
 use Rattle.opcode_data.proofs.Places.{sizes, by-place}
-use Rattle.listing.specs.Instruction.{fills}
+use Rattle.listing.specs.Operands.{fills}
 use Rattle.listing.proofs.fills.Statement.{statement}
 use Rattle.listing.proofs.fills.Tie as tie
 

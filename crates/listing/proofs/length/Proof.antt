@@ -6,14 +6,16 @@ use borrow.Author.Needs.{needs}
 use Rattle.opcode_data.specs.declared.OpcodeData.{OpcodeData}
 use Rattle.opcode_data.specs.Data.{dataOf}
 use Rattle.opcode_data.specs.Lists.{listOf}
-use Rattle.listing.specs.Instruction.{filled, lengthOf}
+use Rattle.listing.specs.Operands.{filled}
+use Rattle.listing.specs.Instruction.{lengthOf}
+use Rattle.listing.proofs.Operands.{all-filled}
 use Rattle.listing.proofs.length.Statement.{statement}
 use Rattle.listing.proofs.length.Tie as tie
 
 -- the opcode, and the bytes that its modes fill
 one-more : (opcode n : ℕ) (d : OpcodeData) → d ≡ dataOf opcode → n ≡ filled (listOf (d .modes)) → 1 + n ≡ lengthOf opcode
 unfolding lengthOf
-one-more opcode n d e f = rw (f, e)
+one-more opcode n d e f = rw (all-filled, f, e)
 
 from-opcode-requires : tie.Need-from-opcode-requires
 from-opcode-requires c κs = search needs

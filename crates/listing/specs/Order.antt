@@ -1,0 +1,85 @@
+-- What the order of operand bytes comes to, computed over all 256 opcodes: each byte is one operand's, and an instruction's text is what
+-- `format_address_modes` makes of its modes and bytes, save at the opcodes of CBNE, BBS and BBC and that of DBNZ on the direct page.
+-- Assumes nothing.
+use Prim.Native.Nat.{ℕ, _+_, _<_}
+use mathlib.Core.Path.{_≡_, refl}
+use mathlib.Core.Bool.{Bool, true, false, not, _&&_, _||_}
+use mathlib.Core.List.{List, [], _∷_, _++_}
+use lib.Dec.{T, eqb, eqb→eq, leb, ltb}
+use lib.ListN.{getD}
+use Rattle.laws.specs.Below.{below, below-at}
+use Rattle.laws.specs.Once.{Once, once, count}
+use Rattle.laws.specs.Table.{same-table, where-same}
+use Rattle.text.specs.Digits.{decimalWithin}
+use Rattle.text.specs.Quoted.{text}
+use Rattle.opcodes.specs.Opcodes.{constants, names, bbs, bbc}
+use Rattle.opcode_data.specs.Data.{dataOf}
+use Rattle.opcode_data.specs.Format.{modesText}
+use Rattle.opcode_data.specs.declared.AddressMode.{AddressMode}
+use Rattle.opcode_data.specs.declared.AddressMode.the-variants.{A}
+use Rattle.listing.specs.Operands.{fills, Operand, _from_, branchesOnDirectPage, bytesOf}
+use Rattle.listing.specs.Instruction.{modesAt, operandsAt, letters, instructionText}
+
+-- ---- each byte is one operand's
+
+-- whether an operand takes the byte at a place behind the opcode
+abbrev pub takesByte : ℕ → Operand → Bool
+takesByte place o = leb (o .at) place && ltb place (o .at + fills (o .mode))
+
+-- Every byte behind the opcode is taken by one operand and by no second. (`A from 0` takes no byte.)
+pub each-byte : (opcode place : ℕ) → opcode < 256 → place < bytesOf (operandsAt opcode)
+    → Once (takesByte place) (A from 0) (operandsAt opcode)
+unfolding dataOf constants
+each-byte opcode place h within =
+    once (takesByte place) (A from 0) (operandsAt opcode)
+    (eqb→eq _ 1
+    (below-at (bytesOf (operandsAt opcode)) (λ i. eqb (taken opcode i) 1)
+    (below-at 256 (λ k. below (bytesOf (operandsAt k)) (λ i. eqb (taken k i) 1)) tt opcode h) place within))
+  where
+    taken : ℕ → ℕ → ℕ
+    taken k i = count (takesByte i) (operandsAt k)
+
+-- ---- which opcodes the corrected order is for
+
+-- CBNE d, CBNE d+X, DBNZ d, BBS and BBC
+abbrev pub oneOfFour : ℕ → Bool
+oneOfFour opcode = eqb opcode 0x2E || eqb opcode 0xDE || eqb opcode 0x6E || names bbs opcode || names bbc opcode
+
+-- They are the opcodes whose list holds both a direct page mode and Rel.
+pub the-four : (opcode : ℕ) → opcode < 256 → branchesOnDirectPage (modesAt opcode) ≡ oneOfFour opcode
+unfolding dataOf constants
+the-four = same-table 256 (λ k. branchesOnDirectPage (modesAt k)) oneOfFour refl
+
+-- ---- what it changes, whatever the operand bytes
+
+-- a list as `format_address_modes` prints it, behind a blank; nothing where it is empty
+abbrev pub formatted : List AddressMode → List ℕ → List ℕ
+formatted [] bytes = []
+formatted (m ∷ ms) bytes = text " " ++ modesText (m ∷ ms) bytes
+
+-- the name, and the list of the opcode so printed
+abbrev pub formattedText : ℕ → List ℕ → List ℕ
+formattedText opcode bytes = letters (dataOf opcode .name) ++ formatted (modesAt opcode) bytes
+
+module _ (bytes : List ℕ) where
+  -- Nothing, for every opcode but those.
+  pub others : (opcode : ℕ) → opcode < 256 → oneOfFour opcode ≡ false → instructionText opcode bytes ≡ formattedText opcode bytes
+  unfolding dataOf constants instructionText
+  others opcode h e =
+      where-same 256 (λ k. not (oneOfFour k)) [] (λ k. instructionText k bytes) (λ k. formattedText k bytes) refl opcode h (rw e tt)
+
+  -- the first two operand bytes, exchanged
+  abbrev pub exchanged : List ℕ
+  exchanged = getD bytes 1 0 ∷ getD bytes 0 0 ∷ []
+
+  -- For those, that the list is printed with the two bytes exchanged.
+  pub exchanges : (opcode : ℕ) → opcode < 256 → oneOfFour opcode ≡ true → instructionText opcode bytes ≡ formattedText opcode exchanged
+  unfolding dataOf constants instructionText
+  exchanges opcode h e =
+      where-same 256 oneOfFour [] (λ k. instructionText k bytes) (λ k. formattedText k exchanged) refl opcode h (rw e tt)
+
+-- The two lines that the request shows.
+pub two-lines : (instructionText 0x2E (0x10 ∷ 0x05 ∷ []) ≡ text "CBNE $10, +5")
+    × (instructionText 0x63 (0x10 ∷ 0x80 ∷ []) ≡ text "BBS $10, bit3, -128")
+unfolding dataOf constants instructionText decimalWithin
+two-lines = (refl, refl)
