@@ -234,13 +234,13 @@ static int as_the_step(const uint8_t *code, uint8_t set, const char *format)
     return marks(now.reads) == 4 && says(code, 3, 80, answer(0, 0, length), expected);
 }
 
-/* Every branch on a direct page cell, each operand byte at 64 values, the two never equal. */
+/* Every branch on a direct page cell, each operand byte at every value, the two never equal. */
 static void branches(void)
 {
     static const char *cbne[] = {"CBNE $%02X, %+d", "CBNE $%02X, X, %+d"};
     int compared = 1, counted = 1, tested = 1;
-    for (unsigned i = 0; i < 64; i++) {
-        uint8_t direct = 4 * i + 1, displacement = 6 * i + 128;
+    for (unsigned i = 0; i < 256; i++) {
+        uint8_t direct = i, displacement = 5 * i + 1;
         compared &= as_the_step((uint8_t[]){0x2E, direct, displacement}, 0, cbne[0]);
         compared &= as_the_step((uint8_t[]){0xDE, direct, displacement}, 0, cbne[1]);
         counted &= as_the_step((uint8_t[]){0x6E, direct, displacement}, 0, "DBNZ $%02X, %+d");

@@ -42,6 +42,7 @@ partOf Sp = nothing
 partOf Psw = nothing
 partOf (Encoded n) = nothing
 
+-- in bytes
 abbrev pub size : Part → ℕ
 size nothing = 0
 size directPage = 1
@@ -55,6 +56,31 @@ fills m = size (partOf m)
 abbrev pub filled : List AddressMode → ℕ
 filled [] = 0
 filled (m ∷ ms) = fills m + filled ms
+
+-- ---- lists that hold both a direct page mode and Rel
+
+abbrev pub isDirectPage : Part → Bool
+isDirectPage nothing = false
+isDirectPage directPage = true
+isDirectPage displacement = false
+isDirectPage byte = false
+isDirectPage twoBytes = false
+
+abbrev pub isDisplacement : Part → Bool
+isDisplacement nothing = false
+isDisplacement directPage = false
+isDisplacement displacement = true
+isDisplacement byte = false
+isDisplacement twoBytes = false
+
+-- some mode of a list has a part that passes a test
+abbrev pub has : (Part → Bool) → List AddressMode → Bool
+has f [] = false
+has f (m ∷ ms) = f (partOf m) || has f ms
+
+-- both a direct page mode, D or Dx, and Rel
+abbrev pub branchesOnDirectPage : List AddressMode → Bool
+branchesOnDirectPage ms = has isDirectPage ms && has isDisplacement ms
 
 -- ---- where the bytes of each operand stand
 
@@ -77,30 +103,8 @@ abbrev pub fromFirst : ℕ → List AddressMode → List Operand
 fromFirst at [] = []
 fromFirst at (m ∷ ms) = m from at ∷ fromFirst (at + fills m) ms
 
-abbrev pub isDirectPage : Part → Bool
-isDirectPage nothing = false
-isDirectPage directPage = true
-isDirectPage displacement = false
-isDirectPage byte = false
-isDirectPage twoBytes = false
-
-abbrev pub isDisplacement : Part → Bool
-isDisplacement nothing = false
-isDisplacement directPage = false
-isDisplacement displacement = true
-isDisplacement byte = false
-isDisplacement twoBytes = false
-
-abbrev pub has : (Part → Bool) → List AddressMode → Bool
-has f [] = false
-has f (m ∷ ms) = f (partOf m) || has f ms
-
--- a list that holds both a direct page mode, D or Dx, and Rel
-abbrev pub branchesOnDirectPage : List AddressMode → Bool
-branchesOnDirectPage ms = has isDirectPage ms && has isDisplacement ms
-
 -- Bytes go from the last mode to the first. In a list that holds both a direct page mode and Rel the direct page byte comes first in
--- memory: there they go from the first mode to the last.
+-- memory: there bytes go from the first mode to the last, since the direct page mode stands before Rel.
 abbrev pub operandsOf : List AddressMode → List Operand
 operandsOf ms = cond (branchesOnDirectPage ms) (fromFirst 0 ms) (fromLast ms)
 

@@ -3,7 +3,7 @@
 -- Assumes nothing.
 use Prim.Native.Nat.{ℕ, _+_, _<_}
 use mathlib.Core.Path.{_≡_, refl}
-use mathlib.Core.Bool.{Bool, true, false, not, _&&_, _||_}
+use mathlib.Core.Bool.{Bool, true, false, cond, not, _&&_, _||_}
 use mathlib.Core.List.{List, [], _∷_, _++_}
 use lib.Dec.{T, eqb, eqb→eq, leb, ltb}
 use lib.ListN.{getD}
@@ -17,7 +17,7 @@ use Rattle.opcode_data.specs.Data.{dataOf}
 use Rattle.opcode_data.specs.Format.{modesText}
 use Rattle.opcode_data.specs.declared.AddressMode.{AddressMode}
 use Rattle.opcode_data.specs.declared.AddressMode.the-variants.{A}
-use Rattle.listing.specs.Operands.{fills, Operand, _from_, branchesOnDirectPage, bytesOf}
+use Rattle.listing.specs.Operands.{Part, partOf, fills, Operand, _from_, isDirectPage, isDisplacement, branchesOnDirectPage, bytesOf}
 use Rattle.listing.specs.Instruction.{modesAt, operandsAt, letters, instructionText}
 
 -- ---- each byte is one operand's
@@ -49,6 +49,20 @@ oneOfFour opcode = eqb opcode 0x2E || eqb opcode 0xDE || eqb opcode 0x6E || name
 pub the-four : (opcode : ℕ) → opcode < 256 → branchesOnDirectPage (modesAt opcode) ≡ oneOfFour opcode
 unfolding dataOf constants
 the-four = same-table 256 (λ k. branchesOnDirectPage (modesAt k)) oneOfFour refl
+
+-- where the operands stand whose part passes a test
+abbrev pub places : (Part → Bool) → List Operand → List ℕ
+places f [] = []
+places f (o ∷ os) = cond (f (partOf (o .mode))) (o .at ∷ places f os) (places f os)
+
+-- At each of them the direct page byte is the first byte behind the opcode, and the displacement the second.
+pub direct-page-first : (opcode : ℕ) → opcode < 256 → oneOfFour opcode ≡ true
+    → (places isDirectPage (operandsAt opcode) ≡ 0 ∷ []) × (places isDisplacement (operandsAt opcode) ≡ 1 ∷ [])
+unfolding dataOf constants
+direct-page-first opcode h e = (
+  where-same 256 oneOfFour [] (λ k. places isDirectPage (operandsAt k)) (λ k. 0 ∷ []) refl opcode h (rw e tt),
+  where-same 256 oneOfFour [] (λ k. places isDisplacement (operandsAt k)) (λ k. 1 ∷ []) refl opcode h (rw e tt),
+)
 
 -- ---- what it changes, whatever the operand bytes
 

@@ -64,8 +64,8 @@ fn name_on_line(line: Line, name: [u8; 5]) -> Line
     named
 }
 
-// Whether an instruction has a direct page byte and a displacement behind it: CBNE, DBNZ on the direct page, BBS and BBC, which are
-// all that end in 3.
+// Whether a direct page byte and a displacement stand behind an opcode: that of CBNE, of DBNZ on the direct page, of BBS or of BBC.
+// The opcodes of the last two are all that end in 3.
 fn branches_on_direct_page(opcode: u8) -> bool
     ensures { λ r. ⌜ r ≡ branchesOnDirectPage (modesAt opcode) ⌝ }
 {

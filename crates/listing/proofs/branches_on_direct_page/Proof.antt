@@ -1,7 +1,7 @@
--- The named opcodes have such a list, and of the others just those that end in 3: both are computed over all 256.
+-- The named opcodes are of the four, and of the others just those that end in 3: both are computed over all 256.
 -- Assumes nothing.
 use Prim.Native.Nat.{ℕ, _%_}
-use mathlib.Core.Path.{_≡_, refl}
+use mathlib.Core.Path.{_≡_, refl, sym, _∙_}
 use mathlib.Core.Bool.{Bool, true, false, not}
 use mathlib.Core.List.{List, [], _∷_}
 use lib.Dec.{eqb}
@@ -11,10 +11,9 @@ use mir.Val.{Fits, hasKey}
 use borrow.Author.Needs.{needs}
 use Rattle.laws.specs.Dispatch.{NoneIn, hasIn, held, none-then}
 use Rattle.laws.specs.Table.{where-same}
-use Rattle.opcodes.specs.Opcodes.{constants}
-use Rattle.opcode_data.specs.Data.{dataOf}
 use Rattle.listing.specs.Operands.{branchesOnDirectPage}
 use Rattle.listing.specs.Instruction.{modesAt}
+use Rattle.listing.specs.Order.{oneOfFour, the-four}
 use Rattle.listing.proofs.branches_on_direct_page.Statement.{statement}
 use Rattle.listing.proofs.branches_on_direct_page.Tie as tie
 
@@ -26,15 +25,15 @@ abbrev other : ℕ → Bool
 other k = not (hasIn (keys ∷ []) k)
 
 named : (opcode : ℕ) → Fits w8 opcode → OneOf keys opcode → true ≡ branchesOnDirectPage (modesAt opcode)
-unfolding dataOf constants
 named opcode h one =
-    where-same 256 (hasKey keys) false (λ k. true) (λ k. branchesOnDirectPage (modesAt k)) refl opcode (h .fits) (held keys opcode one)
+    where-same 256 (hasKey keys) false (λ k. true) oneOfFour refl opcode (h .fits) (held keys opcode one)
+    ∙ sym (the-four opcode (h .fits))
 
 in-three : (opcode : ℕ) → Fits w8 opcode → NoneIn (keys ∷ []) opcode → eqb (opcode % 16) 3 ≡ branchesOnDirectPage (modesAt opcode)
-unfolding dataOf constants
 in-three opcode h none =
-    where-same 256 other false (λ k. eqb (k % 16) 3) (λ k. branchesOnDirectPage (modesAt k)) refl opcode (h .fits)
+    where-same 256 other false (λ k. eqb (k % 16) 3) oneOfFour refl opcode (h .fits)
     (none-then 256 other (λ k. k) (keys ∷ []) opcode (h .fits) none tt)
+    ∙ sym (the-four opcode (h .fits))
 
 returns : tie.Need-returns
 returns c = search (needs, named)
