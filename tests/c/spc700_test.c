@@ -211,7 +211,7 @@ static void texts(void)
     text("text: refused 4 before 3", code, 1, 0, answer(SPC700_CUT, 0, 0), "");
 }
 
-/* The one address of page 0 that is marked as read. */
+/* The first address of page 0 that is marked as read, 256 where none is. */
 static unsigned read_in_page_0(void)
 {
     for (unsigned at = 0; at < 256; at++)
@@ -237,12 +237,11 @@ static int as_the_step(const uint8_t *code, uint8_t set, const char *format)
 /* Every branch on a direct page cell, each operand byte at every value, the two never equal. */
 static void branches(void)
 {
-    static const char *cbne[] = {"CBNE $%02X, %+d", "CBNE $%02X, X, %+d"};
     int compared = 1, counted = 1, tested = 1;
     for (unsigned i = 0; i < 256; i++) {
         uint8_t direct = i, displacement = 5 * i + 1;
-        compared &= as_the_step((uint8_t[]){0x2E, direct, displacement}, 0, cbne[0]);
-        compared &= as_the_step((uint8_t[]){0xDE, direct, displacement}, 0, cbne[1]);
+        compared &= as_the_step((uint8_t[]){0x2E, direct, displacement}, 0, "CBNE $%02X, %+d");
+        compared &= as_the_step((uint8_t[]){0xDE, direct, displacement}, 0, "CBNE $%02X, X, %+d");
         counted &= as_the_step((uint8_t[]){0x6E, direct, displacement}, 0, "DBNZ $%02X, %+d");
         for (unsigned bit = 0; bit < 8; bit++) {
             char format[] = "BB? $%02X, bit0, %+d";

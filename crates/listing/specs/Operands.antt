@@ -15,7 +15,7 @@ pub data Part : Type 0 where
   byte : Part
   twoBytes : Part
 
--- Mb and Nmb print no operand yet fill two bytes.
+-- Mb and Nmb fill two bytes, of which their text shows none.
 abbrev pub partOf : AddressMode → Part
 partOf A = nothing
 partOf X = nothing
@@ -42,7 +42,7 @@ partOf Sp = nothing
 partOf Psw = nothing
 partOf (Encoded n) = nothing
 
--- in bytes
+-- how many bytes that is
 abbrev pub size : Part → ℕ
 size nothing = 0
 size directPage = 1
@@ -50,15 +50,18 @@ size displacement = 1
 size byte = 1
 size twoBytes = 2
 
+-- how many bytes of its instruction a mode fills
 abbrev pub fills : AddressMode → ℕ
 fills m = size (partOf m)
 
+-- how many the modes of a list fill together
 abbrev pub filled : List AddressMode → ℕ
 filled [] = 0
 filled (m ∷ ms) = fills m + filled ms
 
 -- ---- lists that hold both a direct page mode and Rel
 
+-- whether a part is the direct page byte
 abbrev pub isDirectPage : Part → Bool
 isDirectPage nothing = false
 isDirectPage directPage = true
@@ -66,6 +69,7 @@ isDirectPage displacement = false
 isDirectPage byte = false
 isDirectPage twoBytes = false
 
+-- whether it is the displacement
 abbrev pub isDisplacement : Part → Bool
 isDisplacement nothing = false
 isDisplacement directPage = false
@@ -103,8 +107,8 @@ abbrev pub fromFirst : ℕ → List AddressMode → List Operand
 fromFirst at [] = []
 fromFirst at (m ∷ ms) = m from at ∷ fromFirst (at + fills m) ms
 
--- Bytes go from the last mode to the first. In a list that holds both a direct page mode and Rel the direct page byte comes first in
--- memory: there bytes go from the first mode to the last, since the direct page mode stands before Rel.
+-- Bytes go from the last mode to the first. Where a direct page mode and Rel are in one list the direct page byte is the first in memory:
+-- there they go from the first mode to the last. The direct page mode is the first of every such list (Order: `direct-page-first`).
 abbrev pub operandsOf : List AddressMode → List Operand
 operandsOf ms = cond (branchesOnDirectPage ms) (fromFirst 0 ms) (fromLast ms)
 

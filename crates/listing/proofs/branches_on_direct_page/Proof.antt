@@ -13,7 +13,7 @@ use Rattle.laws.specs.Dispatch.{NoneIn, hasIn, held, none-then}
 use Rattle.laws.specs.Table.{where-same}
 use Rattle.listing.specs.Operands.{branchesOnDirectPage}
 use Rattle.listing.specs.Instruction.{modesAt}
-use Rattle.listing.specs.Order.{oneOfFour, the-four}
+use Rattle.listing.specs.Order.{corrected, the-corrected}
 use Rattle.listing.proofs.branches_on_direct_page.Statement.{statement}
 use Rattle.listing.proofs.branches_on_direct_page.Tie as tie
 
@@ -26,14 +26,14 @@ other k = not (hasIn (keys ∷ []) k)
 
 named : (opcode : ℕ) → Fits w8 opcode → OneOf keys opcode → true ≡ branchesOnDirectPage (modesAt opcode)
 named opcode h one =
-    where-same 256 (hasKey keys) false (λ k. true) oneOfFour refl opcode (h .fits) (held keys opcode one)
-    ∙ sym (the-four opcode (h .fits))
+    where-same 256 (hasKey keys) false (λ k. true) corrected refl opcode (h .fits) (held keys opcode one)
+    ∙ sym (the-corrected opcode (h .fits))
 
 in-three : (opcode : ℕ) → Fits w8 opcode → NoneIn (keys ∷ []) opcode → eqb (opcode % 16) 3 ≡ branchesOnDirectPage (modesAt opcode)
 in-three opcode h none =
-    where-same 256 other false (λ k. eqb (k % 16) 3) oneOfFour refl opcode (h .fits)
+    where-same 256 other false (λ k. eqb (k % 16) 3) corrected refl opcode (h .fits)
     (none-then 256 other (λ k. k) (keys ∷ []) opcode (h .fits) none tt)
-    ∙ sym (the-four opcode (h .fits))
+    ∙ sym (the-corrected opcode (h .fits))
 
 returns : tie.Need-returns
 returns c = search (needs, named)

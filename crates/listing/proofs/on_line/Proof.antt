@@ -8,7 +8,7 @@ use mathlib.Core.Bool.{Bool, true, false}
 use mathlib.Core.List.{List, [], _∷_, _++_, append-nil}
 use native.Mathlib.Omega.{arith}
 use lib.Dec.{T}
-use lib.ListN.{length, getD, take}
+use lib.ListN.{length, take}
 use mir.Syntax.{w8}
 use mir.Val.{Fits}
 use borrow.Author.Needs.{needs}
@@ -25,7 +25,7 @@ use Rattle.opcode_data.specs.declared.OpcodeData.{OpcodeData}
 use Rattle.opcode_data.specs.Data.{dataOf}
 use Rattle.listing.specs.Operands.{branchesOnDirectPage}
 use Rattle.listing.specs.Instruction.{modesAt, lengthOf, letters, instructionText}
-use Rattle.listing.specs.Order.{oneOfFour, the-four, formatted, formattedText, others, exchanged, exchanges}
+use Rattle.listing.specs.Order.{corrected, the-corrected, formatted, formattedText, others, exchanged, exchanges}
 use Rattle.listing.proofs.on_line.Statement.{statement}
 use Rattle.listing.proofs.on_line.Tie as tie
 
@@ -44,22 +44,22 @@ name-only : (l r : Line) (opcode : ℕ) (bytes : List ℕ) (d : OpcodeData)
 unfolding instructionText
 name-only l r opcode bytes d p e none = rw (← e, none, append-nil) p
 
-with-operands : (l named start r : Line) (opcode : ℕ) (bytes : List ℕ) (d : OpcodeData) → r ≡ adds start (modesText (listOf (d .modes)) bytes)
-    → start ≡ pushed named (code " ") → named ≡ adds l (letters (d .name)) → d ≡ dataOf opcode → (d .modes .count ≡ 0 → ⊥)
-    → r ≡ adds l (formattedText opcode bytes)
+with-operands : (l named start r : Line) (opcode : ℕ) (bytes : List ℕ) (d : OpcodeData)
+    → r ≡ adds start (modesText (listOf (d .modes)) bytes) → start ≡ pushed named (code " ") → named ≡ adds l (letters (d .name))
+    → d ≡ dataOf opcode → (d .modes .count ≡ 0 → ⊥) → r ≡ adds l (formattedText opcode bytes)
 with-operands l named start r opcode bytes d o b n e some =
     let operands = modesText (listOf (d .modes)) bytes in
     rw (← e, some-operands (d .modes) bytes some)
     (then-text l named r (letters (d .name)) (text " " ++ operands) (and-byte named start r (code " ") operands b o) n)
 
 -- by the code's own test: the bytes that are read are there, and which form the text has
-three-bytes : (opcode : ℕ) → opcode < 256 → T (oneOfFour opcode) → lengthOf opcode ≡ 3
+three-bytes : (opcode : ℕ) → opcode < 256 → T (corrected opcode) → lengthOf opcode ≡ 3
 unfolding dataOf constants lengthOf
-three-bytes = where-same 256 oneOfFour 3 lengthOf (λ k. 3) refl
+three-bytes = where-same 256 corrected 3 lengthOf (λ k. 3) refl
 
 module _ (opcode : ℕ) (bytes : List ℕ) (b : Bool) (e : b ≡ branchesOnDirectPage (modesAt opcode)) (fits : Fits w8 opcode) where
-  tested : {t : Bool} → b ≡ t → oneOfFour opcode ≡ t
-  tested q = sym (the-four opcode (fits .fits)) ∙ sym e ∙ q
+  tested : {t : Bool} → b ≡ t → corrected opcode ≡ t
+  tested q = sym (the-corrected opcode (fits .fits)) ∙ sym e ∙ q
 
   both-there : b ≡ true → lengthOf opcode ≤ length bytes + 1 → 1 < length bytes
   both-there q enough = omega (arith, three-bytes opcode (fits .fits) (rw (tested q) tt))
