@@ -1,4 +1,4 @@
--- The operands of a list take all the bytes that its modes fill and no other, in either order.
+-- In either order the operands of a list take as many bytes as its modes fill.
 -- Assumes nothing.
 use Prim.Native.Nat.{ℕ, _+_, max}
 use mathlib.Core.Path.{_≡_, refl}

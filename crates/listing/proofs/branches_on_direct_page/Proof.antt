@@ -1,4 +1,4 @@
--- The named opcodes are of the four, and of the others just those that end in 3: both are computed over all 256.
+-- The named opcodes are corrected ones, and of the others just those that end in 3: both are computed over all 256.
 -- Assumes nothing.
 use Prim.Native.Nat.{ℕ, _%_}
 use mathlib.Core.Path.{_≡_, refl, sym, _∙_}
