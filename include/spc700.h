@@ -7,20 +7,23 @@
  *
  * Of other libraries they use C's memcpy alone. They allocate nothing and keep nothing between two calls.
  *
- * What a call is lent. Every region of bytes is two arguments: a pointer to its first byte, then its length in bytes.
- *   - The pointer is never NULL, also where the length is 0, and as many bytes as the length says belong to the caller.
+ * What a call is lent. Every region is two arguments: a pointer to its first element, then its length in elements. Elements are bytes, but
+ * where spc700_counts is lent 32-bit numbers.
+ *   - The pointer is never NULL, also where the length is 0, it is aligned as its type asks, and as many elements as the length says
+ *     belong to the caller.
  *   - No two regions of one call overlap.
  *   - Nothing else reads or writes them while the call runs.
  * These three are the caller's to keep: the proofs rest on them. Lengths need no care: a wrong one is refused.
  *
  * What a call answers: one number, which spc700_refusal, spc700_stop and spc700_number below take apart.
- *   bits 0 to 31    the number: steps, marks or bytes of text
+ *   bits 0 to 31    the number: steps, or bytes of text; else 0
  *   bits 32 to 39   the stop of a step or a run; else 0
  *   bits 40 to 47   the refusal: 0, or why the call was refused
  *   bits 48 to 63   0
  * A refused call changes no byte that it was lent, and its stop and number are 0.
  *
- * In Rust, declare the functions in an `extern "C"` block: uint8_t * is *mut u8, const uint8_t * is *const u8, size_t is usize.
+ * In Rust, declare the functions in an `extern "C"` block: uint8_t * is *mut u8, const uint8_t * is *const u8, uint32_t * is *mut u32,
+ * size_t is usize.
  */
 #ifndef SPC700_H
 #define SPC700_H
@@ -32,18 +35,20 @@
 extern "C" {
 #endif
 
-/* How many bytes registers, memory and each map have. */
+/* How many bytes registers, memory and each map have, and how many numbers a count of marks gives. */
 #define SPC700_REGISTERS 7
 #define SPC700_MEMORY 65536
 #define SPC700_MAP 8192
+#define SPC700_COUNTS 3
 
-/* Refusals. Where a call could be refused for several reasons, SPC700_WRONG_REGISTERS comes first, then SPC700_WRONG_MEMORY, then
- * SPC700_WRONG_MAP; of a text SPC700_CUT comes before SPC700_NO_ROOM. */
+/* Refusals. Where a call could be refused for several reasons, 6 comes first, then SPC700_WRONG_MEMORY, then SPC700_WRONG_MAP; of a text
+ * SPC700_CUT comes before SPC700_NO_ROOM. */
 #define SPC700_WRONG_MEMORY 1    /* memory is not 65,536 bytes */
 #define SPC700_WRONG_MAP 2       /* a map is not 8,192 bytes */
 #define SPC700_NO_ROOM 3         /* the text is longer than its buffer */
 #define SPC700_CUT 4             /* fewer bytes than the instruction has */
 #define SPC700_WRONG_REGISTERS 6 /* the registers are not 7 bytes */
+#define SPC700_WRONG_COUNTS 6    /* the row for a count is not 3 numbers */
 
 /* Why a run stopped. A step has the same stops: 0 where its instruction was neither of the two. */
 #define SPC700_STOP_BUDGET 0 /* as many steps as the budget allows were taken */
@@ -78,9 +83,21 @@ uint64_t spc700_run(
     uint8_t *reads, size_t reads_length,
     uint8_t *writes, size_t writes_length);
 
-/* Answers how many addresses a map marks, 0 to 65,536, as the number. Changes nothing.
- * Refusal: 2. */
-uint64_t spc700_count(const uint8_t *map, size_t map_length);
+/* Counts the marks of both maps: every marked address once, by the way in which it is marked.
+ *
+ * reads, writes   the maps of steps and runs.
+ * counts          three numbers, which the call writes: how many addresses are read only (marked in `reads` alone), how many are stored
+ *                 only (marked in `writes` alone), how many are both. Their length is 3: it counts numbers, not bytes.
+ *
+ * So the first and the third together are the marks of `reads`, the second and the third those of `writes`; no such sum passes 65,536.
+ * An address that a step stored to before any step read it is stored only: a later read of it leaves no mark.
+ *
+ * Answers 0, with stop and number 0. Changes the three numbers alone.
+ * Refusals: 6, 2. */
+uint64_t spc700_counts(
+    const uint8_t *reads, size_t reads_length,
+    const uint8_t *writes, size_t writes_length,
+    uint32_t *counts, size_t counts_length);
 
 /* Writes the text of one instruction, as `MOV A, #$7F`, into a buffer; no newline and no zero byte follow it.
  *

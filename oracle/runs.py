@@ -78,7 +78,7 @@ class Run:
         if self.report is None:
             self.budget = budget
             a, x, y, sp, low, high, psw = self.registers
-            marks = len(self.reads), len(self.written)
+            marks = len(self.reads), len(self.written), len(self.reads & self.written)
             self.report = records.report(stop, self.steps, marks, a, x, y, sp, high << 8 | low, psw)
 
 

@@ -16,9 +16,9 @@ def budgeted(budget, state):
 
 
 def report(stop, steps, marks, a=0, x=0, y=0, sp=0xEF, pc=0x0200, psw=0):
-    """The five lines of a run. The marks are two numbers: of the addresses that were read, and of those that were written."""
+    """The five lines of a run. The marks are three numbers: the addresses that were read, those that were written, those that are both."""
     flags = " ".join(f"{name}={psw >> 7 - i & 1}" for i, name in enumerate(FLAGS))
     return (
         f"stop {stop}\nsteps {steps}\nA={a:02X} X={x:02X} Y={y:02X} SP={sp:02X} PC={pc:04X}\n"
-        f"{flags} ({psw:02X})\nread {marks[0]} written {marks[1]}\n"
+        f"{flags} ({psw:02X})\nread {marks[0]} written {marks[1]} both {marks[2]}\n"
     )

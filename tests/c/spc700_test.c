@@ -72,7 +72,19 @@ static uint64_t run(struct lengths n, uint32_t budget)
     return spc700_run(now.registers, n.registers, budget, now.memory, n.memory, now.reads, n.reads, now.writes, n.writes);
 }
 
-static uint32_t marks(const uint8_t *map) { return spc700_number(spc700_count(map, SPC700_MAP)); }
+/* The row that a count is lent: a number more than it needs, as with the regions above. */
+static uint32_t row[SPC700_COUNTS + 1];
+
+/* Both maps as they are now, counted into the row. */
+static uint64_t count(void)
+{
+    return spc700_counts(now.reads, SPC700_MAP, now.writes, SPC700_MAP, row, SPC700_COUNTS);
+}
+
+static int counts_are(uint32_t read_only, uint32_t stored_only, uint32_t both)
+{
+    return count() == 0 && row[0] == read_only && row[1] == stored_only && row[2] == both;
+}
 
 static int registers_are(uint8_t a, uint8_t pc_low, uint8_t psw)
 {
@@ -90,8 +102,7 @@ static void runs(void)
     check("run: 2 steps", spc700_number(got) == 2);
     check("run: nothing else in the answer", got == answer(0, 1, 2));
     check("run: A=83 PC=0203 PSW=C8, the others as they were", registers_are(0x83, 0x03, 0xC8));
-    check("run: 3 addresses read, 0200 to 0202", marks(now.reads) == 3 && now.reads[0x40] == 0x07);
-    check("run: none written", marks(now.writes) == 0);
+    check("run: 3 addresses read, 0200 to 0202, none written", counts_are(3, 0, 0) && now.reads[0x40] == 0x07);
     check("run: memory as it was", same(now.memory, before.memory, sizeof now.memory));
 
     start(0x88, 0x05, 0xEF);
@@ -110,7 +121,7 @@ static void steps(void)
     start(0x88, 0x05, 0xEF);
     check("step: 1 step, stop 0", step(RIGHT) == answer(0, 0, 1));
     check("step: A=83 PC=0202 PSW=C8", registers_are(0x83, 0x02, 0xC8));
-    check("step: 2 addresses read", marks(now.reads) == 2 && now.reads[0x40] == 0x03);
+    check("step: 2 addresses read", counts_are(2, 0, 0) && now.reads[0x40] == 0x03);
     check("step: SLEEP is stop 1", step(RIGHT) == answer(0, 1, 1) && registers_are(0x83, 0x03, 0xC8));
 
     start(0xFF, 0, 0);
@@ -119,7 +130,10 @@ static void steps(void)
     start(0xC4, 0x10, 0);
     check("step: MOV $10,A is one step", step(RIGHT) == answer(0, 0, 1) && registers_are(0x7D, 0x02, 0x01));
     check("step: it stores A", now.memory[0x10] == 0x7D);
-    check("step: it marks 0010 as written, and nothing else", marks(now.writes) == 1 && now.writes[2] == 0x01);
+    check("step: it marks 0010 as written, and nothing else", counts_are(2, 1, 0) && now.writes[2] == 0x01);
+
+    start(0xAB, 0x10, 0);
+    check("step: INC $10 reads 0010, and then stores there", step(RIGHT) == answer(0, 0, 1) && counts_are(2, 0, 1) && now.writes[2] == 0x01);
 }
 
 /* MUL of every two bytes, held to C's own product: the library makes it by additions. */
@@ -165,15 +179,62 @@ static void refusals(void)
     refuses("refused 6 before 1 and 2", (struct lengths){8, 65537, 8193, 8193}, SPC700_WRONG_REGISTERS);
 }
 
+/* Every pair of bytes that the two maps can have at one place, 8,192 pairs to a call, held to a count bit by bit. */
+static int counts_of_all_pairs(void)
+{
+    int holds = 1;
+    for (unsigned call = 0; call < 8; call++) {
+        uint32_t expected[SPC700_COUNTS] = {0, 0, 0};
+        for (unsigned i = 0; i < SPC700_MAP; i++) {
+            unsigned pair = call * SPC700_MAP + i;
+            now.reads[i] = pair % 256;
+            now.writes[i] = pair / 256;
+            for (unsigned bit = 0; bit < 8; bit++) {
+                int read = now.reads[i] >> bit & 1, stored = now.writes[i] >> bit & 1;
+                expected[0] += read && !stored;
+                expected[1] += stored && !read;
+                expected[2] += read && stored;
+            }
+        }
+        holds &= counts_are(expected[0], expected[1], expected[2]);
+    }
+    return holds;
+}
+
+/* A count that is told these lengths is refused with this number, and changes neither maps nor row. */
+static void refuses_count(const char *what, size_t reads, size_t writes, size_t counts, uint64_t refusal)
+{
+    static uint32_t given[SPC700_COUNTS + 1];
+    start(0, 0, 0);
+    fill(row, 0xA5, sizeof row);
+    fill(given, 0xA5, sizeof given);
+    uint64_t got = spc700_counts(now.reads, reads, now.writes, writes, row, counts);
+    check(what, got == answer(refusal, 0, 0) && unchanged() && same(row, given, sizeof row));
+}
+
 static void counts(void)
 {
     start(0, 0, 0);
-    check("count: a clear map has no mark", spc700_count(now.reads, SPC700_MAP) == 0);
+    fill(row, 0xA5, sizeof row);
+    check("counts: clear maps have no mark", counts_are(0, 0, 0) && unchanged());
+    check("counts: the number behind the row stays", row[3] == 0xA5A5A5A5);
     fill(now.reads, 0xFF, sizeof now.reads);
-    check("count: a full map has 65,536", spc700_count(now.reads, SPC700_MAP) == answer(0, 0, 65536));
-    check("count: refused 2: 8,191 bytes", spc700_count(now.reads, SPC700_MAP - 1) == answer(SPC700_WRONG_MAP, 0, 0));
-    check("count: refused 2: 8,193 bytes", spc700_count(now.reads, SPC700_MAP + 1) == answer(SPC700_WRONG_MAP, 0, 0));
-    check("count: refused 2: no bytes", spc700_count(now.reads, 0) == answer(SPC700_WRONG_MAP, 0, 0));
+    check("counts: 65,536 read only", counts_are(65536, 0, 0));
+    fill(now.writes, 0xFF, sizeof now.writes);
+    check("counts: 65,536 both", counts_are(0, 0, 65536));
+    fill(now.reads, 0, sizeof now.reads);
+    check("counts: 65,536 stored only", counts_are(0, 65536, 0));
+    check("counts: every pair of map bytes", counts_of_all_pairs());
+    refuses_count("counts: refused 6: no numbers", 8192, 8192, 0, SPC700_WRONG_COUNTS);
+    refuses_count("counts: refused 6: two numbers", 8192, 8192, 2, SPC700_WRONG_COUNTS);
+    refuses_count("counts: refused 6: four numbers", 8192, 8192, 4, SPC700_WRONG_COUNTS);
+    refuses_count("counts: refused 2: no read map", 0, 8192, 3, SPC700_WRONG_MAP);
+    refuses_count("counts: refused 2: 8,191 bytes of the read map", 8191, 8192, 3, SPC700_WRONG_MAP);
+    refuses_count("counts: refused 2: 8,193 bytes of the read map", 8193, 8192, 3, SPC700_WRONG_MAP);
+    refuses_count("counts: refused 2: no written map", 8192, 0, 3, SPC700_WRONG_MAP);
+    refuses_count("counts: refused 2: 8,191 bytes of the written map", 8192, 8191, 3, SPC700_WRONG_MAP);
+    refuses_count("counts: refused 2: 8,193 bytes of the written map", 8192, 8193, 3, SPC700_WRONG_MAP);
+    refuses_count("counts: refused 6 before 2", 8191, 8193, 2, SPC700_WRONG_COUNTS);
 }
 
 /* spc700_text on a buffer of 80 bytes of A5, told another length, answers so and leaves these first bytes and A5 behind them. */
@@ -231,7 +292,7 @@ static int as_the_step(const uint8_t *code, uint8_t set, const char *format)
     int distance = (now.registers[4] | now.registers[5] << 8) - 0x203;
     char expected[80];
     int length = snprintf(expected, sizeof expected, format, read_in_page_0(), distance);
-    return marks(now.reads) == 4 && says(code, 3, 80, answer(0, 0, length), expected);
+    return count() == 0 && row[0] + row[2] == 4 && says(code, 3, 80, answer(0, 0, length), expected);
 }
 
 /* Every branch on a direct page cell, each operand byte at every value, the two never equal. */

@@ -1,13 +1,14 @@
 -- The calls that other programs make: what each answers, as one number, and what it leaves in the bytes it was lent.
 use Prim.Native.Nat.{ℕ, _+_, _*_, _^_}
 use mathlib.Core.Bool.{cond}
-use mathlib.Core.List.{List}
+use mathlib.Core.List.{List, [], _∷_}
 use mathlib.Core.Path.{_≡_}
 use denote.Ref.{now}
 use lib.Dec.{eqb}
 use lib.ListN.{length}
 use Rattle.text.specs.Given.{Wanted, answerTo, bufferAfter}
 use Rattle.text.specs.declared.Written.{Written}
+use Rattle.marks.specs.Counts.{countsOf}
 use Rattle.marks.specs.declared.Counted.{Counted}
 use Rattle.memory.specs.World.{World}
 use Rattle.memory.specs.Access.{Outcome, outcome}
@@ -18,7 +19,7 @@ use Rattle.state.specs.Registers.{registersOf, bytesOf}
 use Rattle.engine.specs.Entry.{stepAnswer, runAnswer}
 use Rattle.engine.specs.declared.Ran.{Ran}
 
--- The refusal in bits 40 and up, the stop in bits 32 to 39, the number (steps, count, length) in the low 32.
+-- The refusal in bits 40 and up, the stop in bits 32 to 39, the number (steps, length) in the low 32.
 abbrev pub packed : ℕ → ℕ → ℕ → ℕ
 packed refusal stop number = refusal * 2 ^ 40 + stop * 2 ^ 32 + number
 
@@ -66,10 +67,31 @@ abbrev pub CallYields : (List ℕ → World → Called) → Lent → Lent → Le
 CallYields call registers memory reads writes r =
     called r (now (registers .exit)) (after memory reads writes) ≡ call (now (registers .entry)) (before memory reads writes)
 
--- a count, and a text
-abbrev pub countNumber : Counted → ℕ
-countNumber c = packed (c .refusal) 0 (c .count)
+-- the answer, and what is left in a lent row of numbers
+pub record Filled : Type 0 where
+  pub answer : ℕ
+  pub row : List ℕ
 
+abbrev pub filled : ℕ → List ℕ → Filled
+filled answer row = record { answer = answer; row = row }
+
+-- A count over both maps fills the row: read only, stored only, both. Refused, the row stays as it was.
+abbrev pub countsInto : Counted → List ℕ → Filled
+countsInto c row =
+    cond (eqb (c .refusal) 0)
+    (filled (packed 0 0 0) (c .«read_only» ∷ c .«stored_only» ∷ c .both ∷ []))
+    (filled (packed (c .refusal) 0 0) row)
+
+-- Refusal 6 exactly if the row is not three numbers long, before 2.
+abbrev pub countsCall : List ℕ → List ℕ → List ℕ → Filled
+countsCall reads writes row =
+    cond (eqb (length row) 3) (countsInto (countsOf reads writes) row) (filled (packed 6 0 0) row)
+
+-- What a call that fills a row promises: it answers and leaves what `call` makes of the row.
+abbrev pub RowYields : (List ℕ → Filled) → Lent → ℕ → Type 0
+RowYields call row r = filled r (now (row .exit)) ≡ call (now (row .entry))
+
+-- a text
 abbrev pub textNumber : Written → ℕ
 textNumber t = packed (t .refusal) 0 (t .length)
 

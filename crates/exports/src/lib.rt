@@ -1,10 +1,9 @@
-// The library that other programs link: C's view of the engine, the counts of marks and the listing. include/spc700.h documents it.
+// The library that other programs link: C's view of the engine, the count of marks and the listing. include/spc700.h documents it.
 // Every call takes its slices as pointer and length, has no condition, and answers one number.
 ghost use mathlib.Core.Path.{_≡_};
 ghost use lib.ListN.{length};
-ghost use Rattle.marks.specs.Maps.{countOf};
 ghost use Rattle.listing.specs.Instruction.{listedOf};
-ghost use Rattle.exports.specs.Calls.{packed, HandsBack, stepCall, runCall, CallYields, countNumber, TextYields};
+ghost use Rattle.exports.specs.Calls.{packed, HandsBack, stepCall, runCall, CallYields, countsCall, RowYields, TextYields};
 use engine::Ran;
 
 // The one number that a call answers.
@@ -66,13 +65,23 @@ pub extern "C" fn spc700_run(
     hand_back(registers, ran)
 }
 
-// How many addresses a map marks. Refusal 2: it is not 8,192 bytes.
+// How many addresses two maps mark as read only, as stored to only, and as both: three numbers. Refusals: 6 a row that is not three numbers
+// long, 2 a map that is not 8,192 bytes.
 #[no_mangle]
-pub extern "C" fn spc700_count(map: &[u8]) -> u64
-    ensures { λ r. ⌜ r ≡ countNumber (countOf (now (map .entry))) ⌝ }
+pub extern "C" fn spc700_counts(reads: &[u8], writes: &[u8], counts: &mut [u32]) -> u64
+    ensures { λ r. ⌜ RowYields (countsCall (now (reads .entry)) (now (writes .entry))) counts r ⌝ }
 {
-    let counted = marks::count(map);
-    packed(counted.refusal, 0, counted.count)
+    if counts.len() != 3 {
+        return packed(6, 0, 0);
+    }
+    let counted = marks::counts(reads, writes);
+    if counted.refusal != 0 {
+        return packed(counted.refusal, 0, 0);
+    }
+    counts[0] = counted.read_only;
+    counts[1] = counted.stored_only;
+    counts[2] = counted.both;
+    packed(0, 0, 0)
 }
 
 // One instruction's text from its bytes. Refusals: 4 fewer bytes than the instruction has, 3 a buffer that is too short.

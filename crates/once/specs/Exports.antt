@@ -3,8 +3,8 @@
 use mathlib.Core.Path.{sym, _∙_}
 use mathlib.Core.List.{[], _∷_}
 use Rattle.exports.proofs as exports
-use Rattle.once.specs.Law.{One, Answers, first, second, third, fourth, fifth}
-use Rattle.once.specs.Forms.{answers, calls}
+use Rattle.once.specs.Law.{One, first, second, third, fourth, fifth}
+use Rattle.once.specs.Forms.{calls, fills}
 
 pub spc700-step-once : One exports.spc700_step.Reads.Post (λ κ e. first e ∷ second e ∷ third e ∷ fourth e ∷ [])
 spc700-step-once = record { same = calls }
@@ -12,8 +12,8 @@ spc700-step-once = record { same = calls }
 pub spc700-run-once : One exports.spc700_run.Reads.Post (λ κ e. first e ∷ third e ∷ fourth e ∷ fifth e ∷ [])
 spc700-run-once = record { same = calls }
 
-pub spc700-count-once : Answers exports.spc700_count.Reads.Post
-spc700-count-once = record { same = answers }
+pub spc700-counts-once : One exports.spc700_counts.Reads.Post (λ κ. third)
+spc700-counts-once = record { same = fills }
 
 pub spc700-text-once : One exports.spc700_text.Reads.Post (λ κ. second)
 spc700-text-once = record { same = λ p q. (p .0 ∙ sym (q .0), p .1 ∙ sym (q .1)) }

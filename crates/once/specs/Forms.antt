@@ -9,7 +9,7 @@ use Rattle.memory.proofs.Laws.{does-once}
 use Rattle.text.specs.declared.Written.{Written}
 use Rattle.text.specs.Given.{Wanted, Given}
 use Rattle.text.proofs.Laws.{given-once}
-use Rattle.exports.specs.Calls.{Called, called}
+use Rattle.exports.specs.Calls.{Called, called, Filled, filled}
 use Rattle.once.specs.Law.{nothing}
 
 -- a result, and nothing is written to
@@ -55,3 +55,7 @@ pub calls : {x y : ℕ} {a b m n s t u v : List ℕ} {c : Called}
 calls p q =
     let same = p ∙ sym q in
     (ap (λ c. c .answer) same, ap (λ c. c .registers ∷ c .left .memory ∷ c .left .reads ∷ c .left .writes ∷ []) same)
+
+-- a call of the library that fills a row of numbers
+pub fills : {x y : ℕ} {a b : List ℕ} {c : Filled} → filled x a ≡ c → filled y b ≡ c → (x ≡ y) × (a ≡ b)
+fills p q = let same = p ∙ sym q in (ap (λ c. c .answer) same, ap (λ c. c .row) same)

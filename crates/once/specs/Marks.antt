@@ -13,5 +13,5 @@ mark-once = record { same = leaves }
 pub mark-unless-once : One marks.mark_unless.Reads.Post (λ κ. first)
 mark-unless-once = record { same = leaves }
 
-pub count-once : Answers marks.count.Reads.Post
-count-once = record { same = answers }
+pub counts-once : Answers marks.counts.Reads.Post
+counts-once = record { same = answers }

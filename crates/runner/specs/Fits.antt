@@ -1,14 +1,15 @@
 -- Neither line of the report is ever too long for a line of 80 bytes, so nothing of it is lost.
 -- Its one hypothesis is what the code's types give: the bytes of the input are below 256, and so the budget is below 2^32. That a stop
--- is at most 2, that there are no more steps than the budget, and no more marks than addresses, is proved of the definition (Bounds).
+-- is at most 2 and that there are no more steps than the budget is proved of the definition (Bounds), and that there are no more marks
+-- than addresses of any two maps (marks/specs/Sums).
 -- Assumes nothing.
-use Prim.Native.Nat.{ℕ, _<_, _≤_}
+use Prim.Native.Nat.{ℕ, _+_, _<_, _≤_}
 use mathlib.Core.Path.{_≡_, refl}
 use mathlib.Core.Bool.{Bool, true, false, cond}
 use mathlib.Core.List.{List, []}
 use native.Mathlib.Omega.{arith}
 use lib.Dec.{eqb}
-use lib.ListN.{length, take, drop, length-append, length-drop}
+use lib.ListN.{length, take, drop, length-append}
 use borrow.Author.Tests.{eqb-true}
 use Rattle.laws.specs.Bytes.{Bytes}
 use Rattle.text.specs.Line.{shown}
@@ -16,7 +17,8 @@ use Rattle.text.specs.Quoted.{text}
 use Rattle.text.proofs.Laws.{length-decimal, shown-adds}
 use Rattle.psw.specs.Theorems.{text-length}
 use Rattle.processor.specs.Text.{registersText}
-use Rattle.marks.specs.Maps.{marksIn}
+use Rattle.marks.specs.Counts.{countsOf}
+use Rattle.marks.specs.Sums.{few}
 use Rattle.memory.specs.World.{World}
 use Rattle.memory.specs.Access.{Outcome}
 use Rattle.state.specs.Registers.{registersOf}
@@ -30,29 +32,33 @@ pub record Fits (s : Session) : Type 0 where
   pub opening : length (s .opening) ≤ 80
   pub closing : length (s .closing) ≤ 80
 
--- ---- the two lines: at most 53 bytes and at most 62
+-- ---- the two lines: at most 53 bytes and at most 73
 
 length-opening : (r : Ran) → r .stop ≤ 2 → r .steps < 4294967296 → length (openingOf r) ≤ 53
 unfolding openingOf registersText
 length-opening r h g =
     simp length-append (omega (arith, length-decimal 0 (r .stop) (omega arith), length-decimal 9 (r .steps) (omega arith)))
 
-length-closing : (o : Outcome World Ran) → marksIn (o .left .reads) ≤ 65536 → marksIn (o .left .writes) ≤ 65536 → length (closingOf o) ≤ 62
+length-closing : (o : Outcome World Ran) → length (closingOf o) ≤ 73
 unfolding closingOf
-length-closing o h g =
-    simp (length-append, text-length)
-    (omega (arith, length-decimal 4 (marksIn (o .left .reads)) (omega arith), length-decimal 4 (marksIn (o .left .writes)) (omega arith)))
+length-closing o =
+    let counted = countsOf (o .left .reads) (o .left .writes) in
+    let most = few (o .left .reads) (o .left .writes) in
+    let read = length-decimal 4 (counted .«read_only» + counted .both) (omega (arith, most .read)) in
+    let written = length-decimal 4 (counted .«stored_only» + counted .both) (omega (arith, most .stored)) in
+    let both = length-decimal 4 (counted .both) (omega (arith, most .read)) in
+    simp (length-append, text-length) (omega (arith, read, written, both))
 
 -- ---- the theorem
 
 module _ (input : List ℕ) (bytes : Bytes input) where
   run-fits : length input ≡ 65547 → Fits (reported (take 11 input) (runOn input))
   run-fits size =
-      let s = small (budgetOf input) (registersOf (take 7 (drop 4 input))) (drop 11 input) (rw length-drop (omega arith)) in
+      let s = small (budgetOf input) (registersOf (take 7 (drop 4 input))) (drop 11 input) in
       let most : budgetOf input < 4294967296 = omega (arith, bytes 0, bytes 1, bytes 2, bytes 3) in
       record {
         opening = omega (arith, length-opening (runOn input .result) (s .stop) (omega (arith, s .steps)));
-        closing = omega (arith, length-closing (runOn input) (s .reads) (s .writes));
+        closing = omega (arith, length-closing (runOn input));
       }
 
   pub fits : Fits (sessionOf input)

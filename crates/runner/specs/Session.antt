@@ -9,7 +9,8 @@ use Rattle.text.specs.Quoted.{text}
 use Rattle.psw.specs.Status.{statusText}
 use Rattle.psw.specs.declared.ProgramStatusWord.{ProgramStatusWord}
 use Rattle.processor.specs.Text.{registersText}
-use Rattle.marks.specs.Maps.{marksIn}
+use Rattle.marks.specs.Counts.{countsOf}
+use Rattle.marks.specs.declared.Counted.{Counted}
 use Rattle.memory.specs.World.{World}
 use Rattle.memory.specs.Access.{Outcome}
 use Rattle.state.specs.Registers.{registersOf}
@@ -23,15 +24,23 @@ budgetOf input = getD input 0 0 + 256 * getD input 1 0 + 65536 * getD input 2 0 
 abbrev pub runOn : List ℕ → Outcome World Ran
 runOn input = played (budgetOf input) (registersOf (take 7 (drop 4 input))) (drop 11 input)
 
--- The report: the stop, the steps and the registers; then the flags and how many addresses each map marks.
+-- The report: the stop, the steps and the registers; then the flags, and how many addresses were read, how many were written, and how many
+-- of these are both.
 unfoldable pub openingOf : Ran → List ℕ
 openingOf r = text "stop " ++ decimal (r .stop) ++ text "\nsteps " ++ decimal (r .steps) ++ text "\n" ++ registersText (r .cpu) ++ text "\n"
 
-abbrev pub closingText : ProgramStatusWord → ℕ → ℕ → List ℕ
-closingText psw read written = statusText psw ++ text "\nread " ++ decimal read ++ text " written " ++ decimal written ++ text "\n"
+abbrev pub marksText : ℕ → ℕ → ℕ → List ℕ
+marksText read written both = text "read " ++ decimal read ++ text " written " ++ decimal written ++ text " both " ++ decimal both ++ text "\n"
+
+abbrev pub closingText : ProgramStatusWord → ℕ → ℕ → ℕ → List ℕ
+closingText psw read written both = statusText psw ++ text "\n" ++ marksText read written both
+
+-- An address that is both is counted among the read and among the written.
+abbrev pub countedText : ProgramStatusWord → Counted → List ℕ
+countedText psw counted = closingText psw (counted .«read_only» + counted .both) (counted .«stored_only» + counted .both) (counted .both)
 
 unfoldable pub closingOf : Outcome World Ran → List ℕ
-closingOf o = closingText (o .result .cpu .psw) (marksIn (o .left .reads)) (marksIn (o .left .writes))
+closingOf o = countedText (o .result .cpu .psw) (countsOf (o .left .reads) (o .left .writes))
 
 -- what is printed, in two parts, and what is left in the bytes of the input, in which the run's memory stands
 pub record Session : Type 0 where

@@ -40,11 +40,13 @@ fn run_on(cpu: Processor, memory: &mut [u8], budget: u32) -> Report
     let mut writes = [0u8; 8192];
     let ran = engine::run(cpu, memory, &mut reads, &mut writes, budget);
     let next = ran.cpu;
-    let read = marks::count(&reads);
-    let written = marks::count(&writes);
+    let counted = marks::counts(&reads, &writes);
+    let both = counted.both;
+    let read = counted.read_only + both;
+    let written = counted.stored_only + both;
     Report {
         opening: lines::opening(ran),
-        closing: lines::closing(next, read.count, written.count),
+        closing: lines::closing(next, read, written, both),
     }
 }
 

@@ -1,7 +1,7 @@
 // The two lines of the report.
 ghost use mathlib.Core.Path.{_≡_};
 ghost use Rattle.text.specs.Line.{blank, adds};
-ghost use Rattle.runner.specs.Session.{openingOf, closingText};
+ghost use Rattle.runner.specs.Session.{openingOf, marksText, closingText};
 use engine::Ran;
 use processor::Processor;
 use text::Line;
@@ -16,12 +16,20 @@ pub fn opening(ran: Ran) -> Line
     cpu.registers_on_line(steps.text(b"\n")).text(b"\n")
 }
 
-// The flags, and how many addresses each map marks.
-pub fn closing(cpu: Processor, read: u32, written: u32) -> Line
-    ensures { λ r. ⌜ r ≡ adds blank (closingText (cpu .psw) read written) ⌝ }
+// How many addresses were read, how many written, and how many of these are both.
+fn marks_on_line(line: Line, read: u32, written: u32, both: u32) -> Line
+    ensures { λ r. ⌜ r ≡ adds line (marksText read written both) ⌝ }
+{
+    let reads = line.text(b"read ").decimal(read);
+    let writes = reads.text(b" written ").decimal(written);
+    writes.text(b" both ").decimal(both).text(b"\n")
+}
+
+// The flags and the marks.
+pub fn closing(cpu: Processor, read: u32, written: u32, both: u32) -> Line
+    ensures { λ r. ⌜ r ≡ adds blank (closingText (cpu .psw) read written both) ⌝ }
 {
     let psw = cpu.psw;
-    let flags = psw.on_line(Line::new());
-    let reads = flags.text(b"\nread ").decimal(read);
-    reads.text(b" written ").decimal(written).text(b"\n")
+    let flags = psw.on_line(Line::new()).text(b"\n");
+    marks_on_line(flags, read, written, both)
 }

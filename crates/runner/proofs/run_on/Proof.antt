@@ -1,33 +1,39 @@
--- The run starts from two arrays of zeros, which are clear maps, and the arrays keep their lengths, so that neither count is refused.
+-- The run starts from two arrays of zeros, which are clear maps. The sums of what it counts are small, whatever the maps hold.
 -- Assumes nothing.
-use Prim.Native.Nat.{ℕ}
+use Prim.Native.Nat.{ℕ, _+_}
 use mathlib.Core.Path.{_≡_, refl}
 use mathlib.Core.List.{List, []}
-use lib.ListN.{length}
+use native.Mathlib.Omega.{arith}
 use borrow.Author.Needs.{needs}
-use borrow.Author.Tests.{eq-eqb}
+use mir.Syntax.{w32}
+use mir.Val.{Fits}
 use Rattle.text.specs.Line.{blank, adds}
 use Rattle.text.specs.declared.Line.{Line}
-use Rattle.marks.specs.Maps.{countOf}
+use Rattle.marks.specs.Counts.{countsOf}
+use Rattle.marks.specs.Sums.{few}
 use Rattle.marks.specs.declared.Counted.{Counted}
 use Rattle.memory.specs.World.{World, world}
 use Rattle.memory.specs.Access.{Outcome, outcome}
-use Rattle.engine.specs.Provenance.{played}
 use Rattle.engine.specs.declared.Ran.{Ran}
-use Rattle.runner.specs.Session.{openingOf, closingOf, reported, closingText}
+use Rattle.runner.specs.Session.{openingOf, closingOf, reported, countedText}
 use Rattle.runner.specs.Told.{Told}
 use Rattle.runner.proofs.run_on.Statement.{statement}
 use Rattle.runner.proofs.run_on.Tie as tie
 
--- A run that left two maps of 8,192 bytes, their counts, and the two lines that were made of it.
-told : {o : Outcome World Ran} {ran : Ran} {memory reads writes : List ℕ} {read written : Counted} {opening closing : Line}
-    → outcome ran (world memory reads writes) ≡ o → length reads ≡ 8192 → length writes ≡ 8192 → read ≡ countOf reads → written ≡ countOf writes
-    → opening ≡ adds blank (openingOf ran) → closing ≡ adds blank (closingText (ran .cpu .psw) (read .count) (written .count))
+-- A run, the counts of the maps that it left, and the two lines that were made of it.
+told : {o : Outcome World Ran} {ran : Ran} {memory reads writes : List ℕ} {counted : Counted} {opening closing : Line}
+    → outcome ran (world memory reads writes) ≡ o → counted ≡ countsOf reads writes
+    → opening ≡ adds blank (openingOf ran) → closing ≡ adds blank (countedText (ran .cpu .psw) counted)
     → Told (reported [] o) (record { opening = opening; closing = closing }) memory
 unfolding closingOf
-told e r w read written opening closing =
-    rw (← e)
-    (record { opening = opening; closing = rw (closing, read, written, eq-eqb _ _ r, eq-eqb _ _ w); left = refl })
+told e counts opening closing = rw (← e) (record { opening = opening; closing = rw (closing, counts); left = refl })
+
+-- The sums of what was counted fit.
+read-fits : (reads writes : List ℕ) {counted : Counted} → counted ≡ countsOf reads writes → Fits w32 (counted .«read_only» + counted .both)
+read-fits reads writes e = rw e (omega (arith, few reads writes .read))
+
+written-fits : (reads writes : List ℕ) {counted : Counted} → counted ≡ countsOf reads writes → Fits w32 (counted .«stored_only» + counted .both)
+written-fits reads writes e = rw e (omega (arith, few reads writes .stored))
 
 slice-aggregate-run : tie.Need-slice-aggregate-run
 slice-aggregate-run c = search needs
@@ -38,17 +44,20 @@ slice-aggregate-run-2 c = search needs
 run-requires : tie.Need-run-requires
 run-requires c κs = search needs
 
-slice-aggregate-count : tie.Need-slice-aggregate-count
-slice-aggregate-count c = search needs
+slice-aggregate-counts : tie.Need-slice-aggregate-counts
+slice-aggregate-counts c = search needs
 
-count-requires : tie.Need-count-requires
-count-requires c κs = search needs
+slice-aggregate-counts-2 : tie.Need-slice-aggregate-counts-2
+slice-aggregate-counts-2 c = search needs
 
-slice-aggregate-count-2 : tie.Need-slice-aggregate-count-2
-slice-aggregate-count-2 c = search needs
+counts-requires : tie.Need-counts-requires
+counts-requires c κs = search needs
 
-count-requires-2 : tie.Need-count-requires-2
-count-requires-2 c κs = search needs
+add-read : tie.Need-add-read
+add-read c = search read-fits
+
+add-written : tie.Need-add-written
+add-written c = search written-fits
 
 opening-requires : tie.Need-opening-requires
 opening-requires c κs = search needs
@@ -69,10 +78,11 @@ run-on-spec =
     slice-aggregate-run
     slice-aggregate-run-2
     run-requires
-    slice-aggregate-count
-    count-requires
-    slice-aggregate-count-2
-    count-requires-2
+    slice-aggregate-counts
+    slice-aggregate-counts-2
+    counts-requires
+    add-read
+    add-written
     opening-requires
     closing-requires
     same-length

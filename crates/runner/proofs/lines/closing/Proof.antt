@@ -18,26 +18,11 @@ slice-aggregate-text c = search needs
 text-requires : tie.Need-text-requires
 text-requires c κs = search needs
 
-decimal-requires : tie.Need-decimal-requires
-decimal-requires c κs = search needs
-
-slice-aggregate-text-2 : tie.Need-slice-aggregate-text-2
-slice-aggregate-text-2 c = search needs
-
-text-requires-2 : tie.Need-text-requires-2
-text-requires-2 c κs = search needs
-
-decimal-requires-2 : tie.Need-decimal-requires-2
-decimal-requires-2 c κs = search needs
-
-slice-aggregate-text-3 : tie.Need-slice-aggregate-text-3
-slice-aggregate-text-3 c = search needs
-
-text-requires-3 : tie.Need-text-requires-3
-text-requires-3 c κs = search needs
+marks-on-line-requires : tie.Need-marks-on-line-requires
+marks-on-line-requires c κs = search needs
 
 returns : tie.Need-returns
-returns c = search (written, on-new) depth 12 fits 5000
+returns c = search (needs, written, on-new)
 
 pub closing-spec : {M : Type 1} → statement M
 closing-spec =
@@ -47,10 +32,5 @@ closing-spec =
     on-line-requires
     slice-aggregate-text
     text-requires
-    decimal-requires
-    slice-aggregate-text-2
-    text-requires-2
-    decimal-requires-2
-    slice-aggregate-text-3
-    text-requires-3
+    marks-on-line-requires
     returns)

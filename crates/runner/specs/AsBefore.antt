@@ -1,0 +1,57 @@
+-- The numbers of addresses read and written that a report prints are document 01's counts of the marks of the two maps, as they were before
+-- the report told how many are both.
+-- Assumes nothing.
+use Prim.Native.Nat.{ℕ}
+use mathlib.Core.Path.{_≡_, refl}
+use mathlib.Core.Bool.{Bool, true, false, cond}
+use mathlib.Core.List.{List}
+use lib.Dec.{eqb}
+use lib.ListN.{length}
+use Rattle.laws.specs.Bytes.{bytes-zeros}
+use Rattle.marks.specs.Counts.{countsOf}
+use Rattle.marks.specs.Sums.{marksIn, Sums, sums}
+use Rattle.memory.specs.World.{World, Sized, world}
+use Rattle.processor.specs.declared.Processor.{Processor}
+use Rattle.runs.specs.Trace.{trace}
+use Rattle.runs.proofs.Trace.{run-replays, sized-replay}
+use Rattle.runs.proofs.Bitmaps.{Bitmaps, bytes-replay}
+use Rattle.runs.proofs.Exact.{fresh}
+use Rattle.engine.specs.Entry.{accepted, refused, refusalOf, countedStep, runOf}
+use Rattle.engine.specs.Provenance.{clear, played}
+use Rattle.runner.specs.Session.{closingText, closingOf}
+
+-- the counts of the maps that a run left add up to those of each
+abbrev Added : World → Type 0
+Added w = Sums (w .reads) (w .writes) (countsOf (w .reads) (w .writes))
+
+added : (w : World) → Sized w → Bitmaps w → Added w
+added w s b = sums (w .reads) (w .writes) (s .reads) (s .writes) (b .reads) (b .writes)
+
+module _ (budget : ℕ) (cpu : Processor) (image : List ℕ) (size : length image ≡ 65536) where
+  start : World
+  start = world image clear clear
+
+  added-left : Added (played budget cpu image .left)
+  unfolding start
+  added-left = go (eqb (refusalOf start) 0) (refusalOf start)
+    where
+      sized : Sized start
+      sized = fresh image 8192 size refl .sized
+
+      bytes : Bitmaps start
+      bytes = record { reads = bytes-zeros 8192; writes = bytes-zeros 8192 }
+
+      go : (b : Bool) (n : ℕ) → Added (cond b (accepted (runOf budget cpu start)) (refused n cpu start) .left)
+      go true n =
+          let t = trace countedStep budget cpu start in
+          rw (run-replays countedStep budget cpu start) (added _ (sized-replay t start sized) (bytes-replay t start bytes))
+      go false n = added start sized bytes
+
+  pub closing-as-before :
+      closingOf (played budget cpu image)
+      ≡ closingText (played budget cpu image .result .cpu .psw)
+      (marksIn (played budget cpu image .left .reads))
+      (marksIn (played budget cpu image .left .writes))
+      (countsOf (played budget cpu image .left .reads) (played budget cpu image .left .writes) .both)
+  unfolding closingOf
+  closing-as-before = rw (added-left .read, added-left .stored)
