@@ -7,8 +7,8 @@
  *
  * Of other libraries they use C's memcpy alone. They allocate nothing and keep nothing between two calls.
  *
- * What a call is lent. Every region is two arguments: a pointer to its first element, then its length in elements. Elements are bytes, but
- * where spc700_counts is lent 32-bit numbers.
+ * What a call is lent. Every region is two arguments: a pointer to its first element, then how many elements it has. They are bytes; only
+ * the counts of spc700_counts are 32-bit numbers.
  *   - The pointer is never NULL, also where the length is 0, it is aligned as its type asks, and as many elements as the length says
  *     belong to the caller.
  *   - No two regions of one call overlap.
@@ -87,12 +87,12 @@ uint64_t spc700_run(
  *
  * reads, writes   the maps of steps and runs.
  * counts          three numbers, which the call writes: how many addresses are read only (marked in `reads` alone), how many are stored
- *                 only (marked in `writes` alone), how many are both. Their length is 3: it counts numbers, not bytes.
+ *                 only (marked in `writes` alone), how many are both. Their length is 3, not 12: it counts numbers.
  *
  * So the first and the third together are the marks of `reads`, the second and the third those of `writes`; no such sum passes 65,536.
  * An address that a step stored to before any step read it is stored only: a later read of it leaves no mark.
  *
- * Answers 0, with stop and number 0. Changes the three numbers alone.
+ * Answers 0: stop and number are 0, too. Changes the three numbers alone.
  * Refusals: 6, 2. */
 uint64_t spc700_counts(
     const uint8_t *reads, size_t reads_length,

@@ -30,7 +30,7 @@ and-bit a b j =
 not-bit : (a j : ℕ) → a < 256 → j < 8 → bit (255 - a) j ≡ not (bit a j)
 not-bit = same-grid 256 8 (λ a j. bit (255 - a) j) (λ a j. not (bit a j)) refl
 
--- a byte has at most eight ones, also with another's bits taken out
+-- a byte has at most eight ones, and so has what it shares with any number
 pub few-ones : (a : ℕ) → Fits w8 a → ones a ≤ 8
 few-ones a h = ones-le 8 a (h .fits)
 

@@ -2,24 +2,17 @@
 -- there; where the count is refused none is.
 -- Assumes nothing.
 use Prim.Native.Nat.{ℕ}
-use mathlib.Core.Path.{_≡_, refl}
+use mathlib.Core.Path.{_≡_}
 use mathlib.Core.List.{List, [], _∷_}
-use native.Mathlib.Omega.{arith}
 use lib.ListN.{length, set}
 use borrow.Author.Needs.{needs}
 use borrow.Author.Tests.{eq-eqb, ne-eqb}
+use Rattle.laws.specs.Stored.{all-stored}
 use Rattle.marks.specs.Counts.{countsOf}
 use Rattle.marks.specs.declared.Counted.{Counted}
 use Rattle.exports.specs.Calls.{packed, filled, countsCall}
 use Rattle.exports.proofs.spc700_counts.Statement.{statement}
 use Rattle.exports.proofs.spc700_counts.Tie as tie
-
-all-stored : (row : List ℕ) (a b c : ℕ) → length row ≡ 3 → set (set (set row 0 a) 1 b) 2 c ≡ a ∷ b ∷ c ∷ []
-all-stored [] a b c h = absurd (omega arith)
-all-stored (_ ∷ []) a b c h = absurd (omega arith)
-all-stored (_ ∷ _ ∷ []) a b c h = absurd (omega arith)
-all-stored (_ ∷ _ ∷ _ ∷ []) a b c h = refl
-all-stored (_ ∷ _ ∷ _ ∷ _ ∷ more) a b c h = absurd (omega arith)
 
 module _ (reads writes row : List ℕ) where
   not-three : {r : ℕ} → (length row ≡ 3 → ⊥) → r ≡ packed 6 0 0 → filled r row ≡ countsCall reads writes row
@@ -31,7 +24,9 @@ module _ (reads writes row : List ℕ) where
 
   accepted : {counted : Counted} {r : ℕ} → length row ≡ 3 → counted ≡ countsOf reads writes → counted .refusal ≡ 0 → r ≡ packed 0 0 0
       → filled r (set (set (set row 0 (counted .«read_only»)) 1 (counted .«stored_only»)) 2 (counted .both)) ≡ countsCall reads writes row
-  accepted s e z p = rw (p, all-stored row _ _ _ s, eq-eqb _ _ s, ← e, eq-eqb _ _ z)
+  accepted {counted} s e z p =
+      let three = all-stored (counted .«read_only» ∷ counted .«stored_only» ∷ counted .both ∷ []) row s in
+      rw (p, three, eq-eqb _ _ s, ← e, eq-eqb _ _ z)
 
 packed-requires : tie.Need-packed-requires
 packed-requires c κs = search needs

@@ -1,30 +1,24 @@
 -- All seven bytes of seven are stored, so nothing is left of what was there.
 -- Assumes nothing.
 use Prim.Native.Nat.{ℕ, _/_, _%_}
-use mathlib.Core.Path.{_≡_}
+use mathlib.Core.Path.{_≡_, _∙_}
 use mathlib.Core.List.{List, [], _∷_}
 use native.Mathlib.Omega.{arith}
 use lib.ListN.{length, length-set, set}
 use borrow.Author.Needs.{needs}
+use Rattle.laws.specs.Stored.{all-stored}
 use Rattle.psw.specs.Status.{byteOf}
 use Rattle.processor.specs.declared.Processor.{Processor}
 use Rattle.state.specs.Registers.{bytesOf}
 use Rattle.state.proofs.set_registers.Statement.{statement}
 use Rattle.state.proofs.set_registers.Tie as tie
 
-all-stored : (bytes : List ℕ) (cpu : Processor) (status : ℕ) → length bytes ≡ 7 → status ≡ byteOf (cpu .psw)
+seven-stored : (bytes : List ℕ) (cpu : Processor) (status : ℕ) → length bytes ≡ 7 → status ≡ byteOf (cpu .psw)
     → set (set (set (set (set (set (set bytes 0 (cpu .a)) 1 (cpu .x)) 2 (cpu .y)) 3 (cpu .sp)) 4 (cpu .pc % 256)) 5 (cpu .pc / 256)) 6 status
     ≡ bytesOf cpu
 unfolding bytesOf
-all-stored [] cpu status h e = absurd (omega arith)
-all-stored (_ ∷ []) cpu status h e = absurd (omega arith)
-all-stored (_ ∷ _ ∷ []) cpu status h e = absurd (omega arith)
-all-stored (_ ∷ _ ∷ _ ∷ []) cpu status h e = absurd (omega arith)
-all-stored (_ ∷ _ ∷ _ ∷ _ ∷ []) cpu status h e = absurd (omega arith)
-all-stored (_ ∷ _ ∷ _ ∷ _ ∷ _ ∷ []) cpu status h e = absurd (omega arith)
-all-stored (_ ∷ _ ∷ _ ∷ _ ∷ _ ∷ _ ∷ []) cpu status h e = absurd (omega arith)
-all-stored (_ ∷ _ ∷ _ ∷ _ ∷ _ ∷ _ ∷ _ ∷ []) cpu status h e = rw e
-all-stored (_ ∷ _ ∷ _ ∷ _ ∷ _ ∷ _ ∷ _ ∷ _ ∷ more) cpu status h e = absurd (omega arith)
+seven-stored bytes cpu status h e =
+    all-stored (cpu .a ∷ cpu .x ∷ cpu .y ∷ cpu .sp ∷ (cpu .pc % 256) ∷ (cpu .pc / 256) ∷ status ∷ []) bytes h ∙ rw e
 
 slice-write-bytes : tie.Need-slice-write-bytes
 slice-write-bytes c = search needs
@@ -60,7 +54,7 @@ same-length : tie.Need-same-length
 same-length c = search needs
 
 returns : tie.Need-returns
-returns c = search (needs, all-stored)
+returns c = search (needs, seven-stored)
 
 pub set-registers-spec : {M : Type 1} → statement M
 set-registers-spec =
