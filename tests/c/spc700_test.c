@@ -133,7 +133,8 @@ static void steps(void)
     check("step: it marks 0010 as written, and nothing else", counts_are(2, 1, 0) && now.writes[2] == 0x01);
 
     start(0xAB, 0x10, 0);
-    check("step: INC $10 reads 0010, and then stores there", step(RIGHT) == answer(0, 0, 1) && counts_are(2, 0, 1) && now.writes[2] == 0x01);
+    check("step: INC $10 is one step", step(RIGHT) == answer(0, 0, 1));
+    check("step: it reads 0010, and then stores there", counts_are(2, 0, 1) && now.writes[2] == 0x01);
 }
 
 /* MUL of every two bytes, held to C's own product: the library makes it by additions. */
@@ -202,13 +203,13 @@ static int counts_of_all_pairs(void)
 }
 
 /* A count that is told these lengths is refused with this number, and changes neither maps nor row. */
-static void refuses_count(const char *what, size_t reads, size_t writes, size_t counts, uint64_t refusal)
+static void refuses_count(const char *what, size_t reads, size_t writes, size_t numbers, uint64_t refusal)
 {
     static uint32_t given[SPC700_COUNTS + 1];
     start(0, 0, 0);
     fill(row, 0xA5, sizeof row);
     fill(given, 0xA5, sizeof given);
-    uint64_t got = spc700_counts(now.reads, reads, now.writes, writes, row, counts);
+    uint64_t got = spc700_counts(now.reads, reads, now.writes, writes, row, numbers);
     check(what, got == answer(refusal, 0, 0) && unchanged() && same(row, given, sizeof row));
 }
 

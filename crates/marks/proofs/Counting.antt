@@ -1,4 +1,5 @@
--- One byte of each map more: the ones of what the two bytes have so are the addresses of these bytes that are marked so.
+-- One byte of each map more: where some byte has the bits that these two have in one way, alone or in common, its ones are how many of
+-- their addresses are marked in that way.
 -- Assumes nothing.
 use Prim.Native.Nat.{ℕ, _+_, _-_, _*_, _/_, _%_, _^_, _<_, _≤_}
 use mathlib.Core.Path.{_≡_, refl, sym, _∙_}
@@ -29,6 +30,10 @@ and-bit a b j =
 
 not-bit : (a j : ℕ) → a < 256 → j < 8 → bit (255 - a) j ≡ not (bit a j)
 not-bit = same-grid 256 8 (λ a j. bit (255 - a) j) (λ a j. not (bit a j)) refl
+
+-- what a number has and a byte lacks
+alone : (a b j : ℕ) → b < 256 → j < 8 → bit (bitAnd a (255 - b)) j ≡ (bit a j && not (bit b j))
+alone a b j h q = rw (and-bit, not-bit b j h q)
 
 -- a byte has at most eight ones, and so has what it shares with any number
 pub few-ones : (a : ℕ) → Fits w8 a → ones a ≤ 8
@@ -84,8 +89,8 @@ module _ (reads writes : List ℕ) where
   one-more {i = i} sofar h x y = record {
     within = omega arith;
     read-only =
-        byte-more readOnly reads writes i _ (sofar .read-only) (and-lt 8 _ _ (x .fits) (omega arith)) (λ j q. rw (and-bit, not-bit _ j (y .fits) q));
+        byte-more readOnly reads writes i _ (sofar .read-only) (and-lt 8 _ _ (x .fits) (omega arith)) (λ j. alone _ _ j (y .fits));
     stored-only =
-        byte-more storedOnly reads writes i _ (sofar .stored-only) (and-lt 8 _ _ (y .fits) (omega arith)) (λ j q. rw (and-bit, not-bit _ j (x .fits) q));
+        byte-more storedOnly reads writes i _ (sofar .stored-only) (and-lt 8 _ _ (y .fits) (omega arith)) (λ j. alone _ _ j (x .fits));
     both = byte-more readAndStored reads writes i _ (sofar .both) (and-lt 8 _ _ (x .fits) (y .fits)) (λ j q. and-bit _ _ j);
   }

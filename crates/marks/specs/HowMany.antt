@@ -25,7 +25,8 @@ apart a zero f = simp add-zero
 apart a (suc n) f = rw add-suc (omega (arith, apart a n f))
 
 -- what passes f or g, and never both, passes h: then the two counts add up
-pub in-parts : (n : ℕ) (f g h : ℕ → Bool) → ((k : ℕ) → cond (f k) 1 0 + cond (g k) 1 0 ≡ cond (h k) 1 0) → howMany n f + howMany n g ≡ howMany n h
+pub in-parts : (n : ℕ) (f g h : ℕ → Bool) → ((k : ℕ) → cond (f k) 1 0 + cond (g k) 1 0 ≡ cond (h k) 1 0)
+    → howMany n f + howMany n g ≡ howMany n h
 unfolding howMany
 in-parts zero f g h e = refl
 in-parts (suc n) f g h e = omega (arith, e n, in-parts n f g h e)

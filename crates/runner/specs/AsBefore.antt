@@ -20,7 +20,7 @@ use Rattle.engine.specs.Entry.{accepted, refused, refusalOf, countedStep, runOf
 use Rattle.engine.specs.Provenance.{clear, played}
 use Rattle.runner.specs.Session.{closingText, closingOf}
 
--- the counts of the maps that a run left add up to those of each
+-- the three numbers of two maps add up to 01's count of each
 abbrev Added : World → Type 0
 Added w = Sums (w .reads) (w .writes) (countsOf (w .reads) (w .writes))
 
@@ -47,6 +47,7 @@ module _ (budget : ℕ) (cpu : Processor) (image : List ℕ) (size : length imag
           rw (run-replays countedStep budget cpu start) (added _ (sized-replay t start sized) (bytes-replay t start bytes))
       go false n = added start sized bytes
 
+  -- What a run on an image of 65,536 bytes prints last: its numbers of addresses read and written are 01's counts of the maps that it left.
   pub closing-as-before :
       closingOf (played budget cpu image)
       ≡ closingText (played budget cpu image .result .cpu .psw)

@@ -30,7 +30,8 @@ unfoldable pub openingOf : Ran → List ℕ
 openingOf r = text "stop " ++ decimal (r .stop) ++ text "\nsteps " ++ decimal (r .steps) ++ text "\n" ++ registersText (r .cpu) ++ text "\n"
 
 abbrev pub marksText : ℕ → ℕ → ℕ → List ℕ
-marksText read written both = text "read " ++ decimal read ++ text " written " ++ decimal written ++ text " both " ++ decimal both ++ text "\n"
+marksText read written both =
+    text "read " ++ decimal read ++ text " written " ++ decimal written ++ text " both " ++ decimal both ++ text "\n"
 
 abbrev pub closingText : ProgramStatusWord → ℕ → ℕ → ℕ → List ℕ
 closingText psw read written both = statusText psw ++ text "\n" ++ marksText read written both

@@ -29,11 +29,12 @@ unfolding closingOf
 told e counts opening closing = rw (← e) (record { opening = opening; closing = rw (closing, counts); left = refl })
 
 -- The sums of what was counted fit.
-read-fits : (reads writes : List ℕ) {counted : Counted} → counted ≡ countsOf reads writes → Fits w32 (counted .«read_only» + counted .both)
-read-fits reads writes e = rw e (omega (arith, few reads writes .read))
+module _ (reads writes : List ℕ) {counted : Counted} (e : counted ≡ countsOf reads writes) where
+  read-fits : Fits w32 (counted .«read_only» + counted .both)
+  read-fits = rw e (omega (arith, few reads writes .read))
 
-written-fits : (reads writes : List ℕ) {counted : Counted} → counted ≡ countsOf reads writes → Fits w32 (counted .«stored_only» + counted .both)
-written-fits reads writes e = rw e (omega (arith, few reads writes .stored))
+  written-fits : Fits w32 (counted .«stored_only» + counted .both)
+  written-fits = rw e (omega (arith, few reads writes .stored))
 
 slice-aggregate-run : tie.Need-slice-aggregate-run
 slice-aggregate-run c = search needs
