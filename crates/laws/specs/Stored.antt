@@ -6,6 +6,7 @@ use mathlib.Core.List.{List, [], _∷_}
 use native.Mathlib.Omega.{arith}
 use lib.ListN.{length, set}
 
+-- a row in which the numbers xs are stored, the first of them at a place
 abbrev pub stored : List ℕ → ℕ → List ℕ → List ℕ
 stored [] at row = row
 stored (x ∷ xs) at row = stored xs (suc at) (set row at x)

@@ -35,10 +35,7 @@ not-bit = same-grid 256 8 (λ a j. bit (255 - a) j) (λ a j. not (bit a j)) refl
 alone : (a b j : ℕ) → b < 256 → j < 8 → bit (bitAnd a (255 - b)) j ≡ (bit a j && not (bit b j))
 alone a b j h q = rw (and-bit, not-bit b j h q)
 
--- a byte has at most eight ones, and so has what it shares with any number
-pub few-ones : (a : ℕ) → Fits w8 a → ones a ≤ 8
-few-ones a h = ones-le 8 a (h .fits)
-
+-- what a byte shares with any number has at most eight ones
 pub few-of-both : (a b : ℕ) → Fits w8 a → ones (bitAnd a b) ≤ 8
 few-of-both a b h = let less = and-le-l a b in ones-le 8 (bitAnd a b) (omega arith)
 

@@ -29,10 +29,12 @@ runOn input = played (budgetOf input) (registersOf (take 7 (drop 4 input))) (dro
 unfoldable pub openingOf : Ran → List ℕ
 openingOf r = text "stop " ++ decimal (r .stop) ++ text "\nsteps " ++ decimal (r .steps) ++ text "\n" ++ registersText (r .cpu) ++ text "\n"
 
+-- the last line of the report
 abbrev pub marksText : ℕ → ℕ → ℕ → List ℕ
 marksText read written both =
     text "read " ++ decimal read ++ text " written " ++ decimal written ++ text " both " ++ decimal both ++ text "\n"
 
+-- the last two lines
 abbrev pub closingText : ProgramStatusWord → ℕ → ℕ → ℕ → List ℕ
 closingText psw read written both = statusText psw ++ text "\n" ++ marksText read written both
 

@@ -10,7 +10,7 @@ use borrow.Author.Needs.{needs}
 use borrow.Author.Tests.{eq-eqb, ne-eqb}
 use Rattle.marks.specs.Counts.{readOnly, storedOnly, readAndStored, noCounts, countsOf}
 use Rattle.marks.specs.declared.Counted.{Counted}
-use Rattle.marks.proofs.Counting.{SoFar, few-ones, few-of-both, room, at-first, one-more}
+use Rattle.marks.proofs.Counting.{SoFar, few-of-both, room, at-first, one-more}
 use Rattle.marks.proofs.counts.Statement.{statement}
 use Rattle.marks.proofs.counts.Tie as tie
 
@@ -56,7 +56,7 @@ shared-slice-read-stored : tie.Need-shared-slice-read-stored Inv-loop μ-loop
 shared-slice-read-stored c = search needs
 
 add-read-only : tie.Need-add-read-only Inv-loop μ-loop
-add-read-only c = search (room readOnly, few-of-both, few-ones, c .before .shared-slice-known3 .given)
+add-read-only c = search (room readOnly, few-of-both, c .before .shared-slice-known3 .given)
 
 add-stored-only : tie.Need-add-stored-only Inv-loop μ-loop
 add-stored-only c = search (room storedOnly, few-of-both, c .shared-slice-known4 .given)
