@@ -1,23 +1,45 @@
--- Numbers that are stored one after the other, from some place on. As many as a row has places leave nothing of what it held.
+-- Numbers that are stored one after the other, from a place of a row on (`sets`): what then stands where.
 -- Assumes nothing.
-use Prim.Native.Nat.{ℕ, suc}
-use mathlib.Core.Path.{_≡_, refl, ap, _∙_}
-use mathlib.Core.List.{List, [], _∷_}
+use Prim.Native.Nat.{ℕ, zero, suc, _+_, _<_, _≤_}
+use mathlib.Core.Path.{_≡_, refl, _∙_}
+use mathlib.Core.List.{List, [], _∷_, _++_, append-nil, append-assoc}
+use native.Mathlib.Nat.{zero-add, add-zero, suc-add, add-suc}
 use native.Mathlib.Omega.{arith}
-use lib.ListN.{length, set}
+use lib.ListN.{length, getD, set, take, drop, length-set, length-drop, take-append-drop}
+use lib.Seq.{sets, sets-eq, drop-length, getD-set-same, getD-set-other, take-set-le, take-add, take-at, drop-at, length-take-le}
 
--- a row in which the numbers xs are stored, the first of them at a place
-abbrev pub stored : List ℕ → ℕ → List ℕ → List ℕ
-stored [] at row = row
-stored (x ∷ xs) at row = stored xs (suc at) (set row at x)
+-- As many as a row has places leave nothing of what it held.
+pub all-stored : (xs row : List ℕ) → length row ≡ length xs → sets row 0 xs ≡ xs
+all-stored xs row h = sets-eq xs row 0 (omega arith) ∙ rw (zero-add, ← h, drop-length row, append-nil xs)
 
--- what stands before the first place stays
-behind : (xs row : List ℕ) (at y : ℕ) → stored xs (suc at) (y ∷ row) ≡ y ∷ stored xs at row
-behind [] row at y = refl
-behind (x ∷ xs) row at y = behind xs (set row at x) (suc at) y
+-- Another place keeps its number.
+pub other-place : (xs row : List ℕ) (from at : ℕ) → ((i : ℕ) → i < length xs → at ≡ from + i → ⊥) → getD (sets row from xs) at 0 ≡ getD row at 0
+other-place [] row from at other = refl
+other-place (x ∷ xs) row from at other =
+    other-place xs (set row from x) (suc from) at (λ i h e. other (suc i) (omega arith) (omega arith))
+    ∙ getD-set-other row from at x 0 (λ e. other 0 (omega arith) (omega arith))
 
-pub all-stored : (xs row : List ℕ) → length row ≡ length xs → stored xs 0 row ≡ xs
-all-stored [] [] h = refl
-all-stored [] (y ∷ row) h = absurd (omega arith)
-all-stored (x ∷ xs) [] h = absurd (omega arith)
-all-stored (x ∷ xs) (y ∷ row) h = behind xs row 0 x ∙ ap (λ (l : List ℕ). x ∷ l) (all-stored xs row (omega arith))
+-- The places that were stored to have the numbers.
+pub stored-place : (xs row : List ℕ) (from i : ℕ) → from + length xs ≤ length row → i < length xs → getD (sets row from xs) (from + i) 0 ≡ getD xs i 0
+stored-place [] row from i room h = absurd (omega arith)
+stored-place (x ∷ xs) row from zero room h =
+    rw add-zero (other-place xs (set row from x) (suc from) from (λ i k e. omega arith) ∙ getD-set-same row from x 0 (omega arith))
+stored-place (x ∷ xs) row from (suc i) room h =
+    rw add-suc (simp suc-add at (stored-place xs (set row from x) (suc from) i (rw length-set (omega arith)) (omega arith)))
+
+-- The first places, before the one where storing begins, have what they had.
+pub before-stored : (n : ℕ) (xs row : List ℕ) (from : ℕ) → n ≤ from → take n (sets row from xs) ≡ take n row
+before-stored n [] row from h = refl
+before-stored n (x ∷ xs) row from h = before-stored n xs (set row from x) (suc from) (omega arith) ∙ take-set-le n row from x h
+
+-- The part that was stored is what was stored.
+pub stored-part : (xs row : List ℕ) (from : ℕ) → from + length xs ≤ length row → take (length xs) (drop from (sets row from xs)) ≡ xs
+stored-part xs row from room =
+    rw (sets-eq xs row from room, append-assoc, drop-at (take from row) (xs ++ drop (from + length xs) row) from (length-take-le from row (omega arith)))
+    (take-at xs (drop (from + length xs) row) (length xs) refl)
+
+-- A part of the row, stored where it stands, changes nothing.
+pub stored-again : (n : ℕ) (row : List ℕ) (from : ℕ) → from + n ≤ length row → sets row from (take n (drop from row)) ≡ row
+stored-again n row from room =
+    let size = length-take-le n (drop from row) (rw length-drop (omega arith)) in
+    sets-eq (take n (drop from row)) row from (rw size room) ∙ rw (size, ← take-add from n row) (take-append-drop (from + n) row)
