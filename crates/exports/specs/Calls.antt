@@ -13,9 +13,12 @@ use Rattle.marks.specs.declared.Counted.{Counted}
 use Rattle.memory.specs.World.{World}
 use Rattle.memory.specs.Access.{Outcome, outcome}
 use Rattle.laws.specs.Lent.{Lent}
+use Rattle.laws.specs.Filled.{Filled, filled}
 use Rattle.memory.specs.Contracts.{before, after}
 use Rattle.processor.specs.declared.Processor.{Processor}
 use Rattle.state.specs.Registers.{registersOf, bytesOf}
+use Rattle.spc_file.specs.Calls.{readOf, writeOf}
+use Rattle.spc_file.specs.declared.FileRead.{FileRead}
 use Rattle.engine.specs.Entry.{stepAnswer, runAnswer}
 use Rattle.engine.specs.declared.Ran.{Ran}
 
@@ -67,29 +70,34 @@ abbrev pub CallYields : (List ℕ → World → Called) → Lent → Lent → Le
 CallYields call registers memory reads writes r =
     called r (now (registers .exit)) (after memory reads writes) ≡ call (now (registers .entry)) (before memory reads writes)
 
--- the answer, and what is left in a lent row of numbers
-pub record Filled : Type 0 where
-  pub answer : ℕ
-  pub row : List ℕ
+-- What a call leaves that fills a lent row of n numbers: 6 exactly if the row has another length, before all others; where the work is
+-- refused, its number, and the row stays as it was; else `new` is in the row.
+abbrev pub intoRow : ℕ → ℕ → List ℕ → List ℕ → Filled
+intoRow n refusal new row =
+    cond (eqb (length row) n)
+    (cond (eqb refusal 0) (filled (packed 0 0 0) new) (filled (packed refusal 0 0) row))
+    (filled (packed 6 0 0) row)
 
-abbrev pub filled : ℕ → List ℕ → Filled
-filled answer row = record { answer = answer; row = row }
-
--- A count over both maps fills the row: read only, stored only, both. Refused, the row stays as it was.
+-- A count over both maps, into three numbers: read only, stored only, both.
 abbrev pub countsInto : Counted → List ℕ → Filled
-countsInto c row =
-    cond (eqb (c .refusal) 0)
-    (filled (packed 0 0 0) (c .«read_only» ∷ c .«stored_only» ∷ c .both ∷ []))
-    (filled (packed (c .refusal) 0 0) row)
+countsInto c = intoRow 3 (c .refusal) (c .«read_only» ∷ c .«stored_only» ∷ c .both ∷ [])
 
--- Refusal 6 exactly if the row is not three numbers long, before 2.
 abbrev pub countsCall : List ℕ → List ℕ → List ℕ → Filled
-countsCall reads writes row =
-    cond (eqb (length row) 3) (countsInto (countsOf reads writes) row) (filled (packed 6 0 0) row)
+countsCall reads writes = countsInto (countsOf reads writes)
 
--- What a call that fills a row promises: it answers and leaves what `call` makes of the row.
-abbrev pub RowYields : (List ℕ → Filled) → Lent → ℕ → Type 0
-RowYields call row r = filled r (now (row .exit)) ≡ call (now (row .entry))
+-- The record of an SPC file, into seven bytes, in the order that all calls have.
+abbrev pub recordInto : FileRead → List ℕ → Filled
+recordInto f = intoRow 7 (f .refusal) (bytesOf (f .cpu))
+
+abbrev pub fileReadCall : List ℕ → List ℕ → Filled
+fileReadCall file = recordInto (readOf file)
+
+-- Record and memory into an SPC file: 6 exactly if the registers are not seven bytes, before all others; else what the write answers and
+-- leaves.
+abbrev pub fileWriteCall : List ℕ → List ℕ → List ℕ → Filled
+fileWriteCall registers memory file =
+    let o = writeOf (registersOf registers) memory file in
+    cond (eqb (length registers) 7) (filled (packed (o .answer) 0 0) (o .row)) (filled (packed 6 0 0) file)
 
 -- a text
 abbrev pub textNumber : Written → ℕ

@@ -1,9 +1,12 @@
-// The library that other programs link: C's view of the engine, the count of marks and the listing. include/spc700.h documents it.
+// The library that other programs link: C's view of the engine, the count of marks, the listing and SPC files. include/spc700.h documents
+// it.
 // Every call takes its slices as pointer and length, has no condition, and answers one number.
 ghost use mathlib.Core.Path.{_≡_};
 ghost use lib.ListN.{length};
 ghost use Rattle.listing.specs.Instruction.{listedOf};
-ghost use Rattle.exports.specs.Calls.{packed, HandsBack, stepCall, runCall, CallYields, countsCall, RowYields, TextYields};
+ghost use Rattle.laws.specs.Filled.{Fills};
+ghost use Rattle.exports.specs.Calls.{packed, HandsBack, stepCall, runCall, CallYields, TextYields};
+ghost use Rattle.exports.specs.Calls.{countsCall, fileReadCall, fileWriteCall};
 use engine::Ran;
 
 // The one number that a call answers.
@@ -69,7 +72,7 @@ pub extern "C" fn spc700_run(
 // long, 2 a map that is not 8,192 bytes.
 #[no_mangle]
 pub extern "C" fn spc700_counts(reads: &[u8], writes: &[u8], counts: &mut [u32]) -> u64
-    ensures { λ r. ⌜ RowYields (countsCall (now (reads .entry)) (now (writes .entry))) counts r ⌝ }
+    ensures { λ r. ⌜ Fills (countsCall (now (reads .entry)) (now (writes .entry))) counts r ⌝ }
 {
     if counts.len() != 3 {
         return packed(6, 0, 0);
@@ -92,4 +95,34 @@ pub extern "C" fn spc700_text(code: &[u8], text: &mut [u8]) -> u64
     let written = listing::instruction(code, text);
     // a text has at most 80 bytes
     packed(written.refusal, 0, written.length as u32)
+}
+
+// The record of an SPC file. Refusals: 6 registers that are not seven bytes, 7 a file that is not 66,048 bytes, 8 a file that begins
+// otherwise.
+#[no_mangle]
+pub extern "C" fn spc700_file_read(file: &[u8], registers: &mut [u8]) -> u64
+    ensures { λ r. ⌜ Fills (fileReadCall (now (file .entry))) registers r ⌝ }
+{
+    if registers.len() != 7 {
+        return packed(6, 0, 0);
+    }
+    let read = spc_file::read(file);
+    if read.refusal != 0 {
+        return packed(read.refusal, 0, 0);
+    }
+    let cpu = read.cpu;
+    state::set_registers(registers, cpu);
+    packed(0, 0, 0)
+}
+
+// Record and memory into an SPC file. Refusals: 6, 7 and 8 as above, then 1 memory that is not 65,536 bytes.
+#[no_mangle]
+pub extern "C" fn spc700_file_write(file: &mut [u8], registers: &[u8], memory: &[u8]) -> u64
+    ensures { λ r. ⌜ Fills (fileWriteCall (now (registers .entry)) (now (memory .entry))) file r ⌝ }
+{
+    if registers.len() != 7 {
+        return packed(6, 0, 0);
+    }
+    let cpu = state::registers(registers);
+    packed(spc_file::write(file, cpu, memory), 0, 0)
 }

@@ -17,3 +17,9 @@ spc700-counts-once = record { same = fills }
 
 pub spc700-text-once : One exports.spc700_text.Reads.Post (λ κ. second)
 spc700-text-once = record { same = λ p q. (p .0 ∙ sym (q .0), p .1 ∙ sym (q .1)) }
+
+pub spc700-file-read-once : One exports.spc700_file_read.Reads.Post (λ κ. second)
+spc700-file-read-once = record { same = fills }
+
+pub spc700-file-write-once : One exports.spc700_file_write.Reads.Post (λ κ. first)
+spc700-file-write-once = record { same = fills }

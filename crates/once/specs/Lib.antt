@@ -8,6 +8,7 @@ pub mod Processor
 pub mod Marks
 pub mod Output
 pub mod State
+pub mod SpcFile
 pub mod Memory
 pub mod Modes
 pub mod Gather

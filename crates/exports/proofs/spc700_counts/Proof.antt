@@ -7,10 +7,11 @@ use mathlib.Core.List.{List, [], _∷_}
 use lib.ListN.{length, set}
 use borrow.Author.Needs.{needs}
 use borrow.Author.Tests.{eq-eqb, ne-eqb}
+use Rattle.laws.specs.Filled.{filled}
 use Rattle.laws.specs.Stored.{all-stored}
 use Rattle.marks.specs.Counts.{countsOf}
 use Rattle.marks.specs.declared.Counted.{Counted}
-use Rattle.exports.specs.Calls.{packed, filled, countsCall}
+use Rattle.exports.specs.Calls.{packed, countsCall}
 use Rattle.exports.proofs.spc700_counts.Statement.{statement}
 use Rattle.exports.proofs.spc700_counts.Tie as tie
 

@@ -1,0 +1,181 @@
+-- What holds of SPC files: which are accepted, that a write keeps to its places, and what comes of reading and writing one after the other.
+-- The one hypothesis is that a file holds bytes, which the code's types give.
+-- Assumes nothing.
+use Prim.Native.Nat.{ℕ, _+_, _/_, _%_, _<_, _≤_}
+use mathlib.Core.Path.{_≡_, refl, _∙_}
+use mathlib.Core.List.{List, [], _∷_, List-discrete}
+use mathlib.Core.Logic.{_⊎_, inl, inr, if-pos, if-neg}
+use native.Mathlib.Decide.{ℕ-discrete}
+use native.Mathlib.Omega.{arith}
+use lib.ListN.{length, getD, take, drop, length-drop}
+use lib.Seq.{sets, length-sets, length-take-le, set-getD}
+use borrow.Author.Tests.{eq-eqb, ne-eqb}
+use Rattle.laws.specs.Bytes.{Bytes}
+use Rattle.laws.specs.Filled.{filled}
+use Rattle.laws.specs.Stored.{other-place, stored-place, before-stored, stored-part, stored-again}
+use Rattle.psw.specs.Theorems.{byte-to-flags-and-back, flags-to-byte-and-back}
+use Rattle.processor.specs.Record.{wordOf}
+use Rattle.processor.specs.declared.Processor.{Processor}
+use Rattle.spc_file.specs.Layout.{signature, recordIn, recordBytes, memoryIn, laid}
+use Rattle.spc_file.specs.Calls.{refusalOf, fileRead, readOf, memoryOf, writeRefusal, writeOf}
+
+-- ---- which files are accepted
+
+pub record Accepted (file : List ℕ) : Type 0 where
+  pub size : length file ≡ 66048
+  pub begins : take 33 file ≡ signature
+
+-- A file is accepted if it has the length and begins with the signature,
+pub accepts : {file : List ℕ} → Accepted file → refusalOf file ≡ 0
+unfolding refusalOf
+accepts {file} a =
+    rw (eq-eqb _ _ (a .size)) (if-pos (List-discrete ℕ-discrete (take 33 file) signature) (a .begins) 0 8)
+
+-- and only then.
+pub accepted : {file : List ℕ} → refusalOf file ≡ 0 → Accepted file
+unfolding refusalOf
+accepted {file} e = go (ℕ-discrete (length file) 66048) (List-discrete ℕ-discrete (take 33 file) signature)
+  where
+    go : Dec (length file ≡ 66048) → Dec (take 33 file ≡ signature) → Accepted file
+    go (yes size) (yes begins) = record { size = size; begins = begins }
+    go (yes size) (no n) = absurd (omega (arith, rw (eq-eqb _ _ size, if-neg {C = ℕ} (List-discrete ℕ-discrete (take 33 file) signature) n 0 8) at e))
+    go (no n) begins = absurd (omega (arith, rw (ne-eqb _ _ n) at e))
+
+-- ---- a write
+
+module _ (memory file : List ℕ) where
+  -- It is accepted if the file is and the memory has its length,
+  pub writes : Accepted file → length memory ≡ 65536 → writeRefusal memory file ≡ 0
+  unfolding writeRefusal
+  writes a size = rw (eq-eqb _ _ (accepts a), eq-eqb _ _ size)
+
+  -- and only then.
+  pub written : writeRefusal memory file ≡ 0 → Accepted file × (length memory ≡ 65536)
+  unfolding writeRefusal
+  written e = go (ℕ-discrete (refusalOf file) 0) (ℕ-discrete (length memory) 65536)
+    where
+      go : Dec (refusalOf file ≡ 0) → Dec (length memory ≡ 65536) → Accepted file × (length memory ≡ 65536)
+      go (yes z) (yes size) = (accepted z, size)
+      go (yes z) (no n) = absurd (omega (arith, rw (eq-eqb _ _ z, ne-eqb _ _ n) at e))
+      go (no n) size = absurd (n (rw (ne-eqb _ _ n) at e))
+
+  -- A file that reading refuses is refused by a write with the same number, and stays as it was.
+  pub refused-file : (cpu : Processor) → (refusalOf file ≡ 0 → ⊥) → writeOf cpu memory file ≡ filled (refusalOf file) file
+  unfolding writeRefusal
+  refused-file cpu n = rw (ne-eqb _ _ n, ne-eqb _ _ n)
+
+-- the places to which it stores
+abbrev pub Stored : ℕ → Type 0
+Stored at = ((37 ≤ at) × (at ≤ 43)) ⊎ ((256 ≤ at) × (at ≤ 65791))
+
+module _ (cpu : Processor) (memory file : List ℕ) where
+  laid-elsewhere : length memory ≡ 65536 → (at : ℕ) → (Stored at → ⊥) → getD (laid cpu memory file) at 0 ≡ getD file at 0
+  unfolding recordBytes
+  laid-elsewhere size at other =
+      other-place memory (sets file 37 (recordBytes cpu)) 256 at (λ i h e. other (inr (omega arith, omega arith)))
+      ∙ other-place (recordBytes cpu) file 37 at (λ i h e. other (inl (omega arith, omega arith)))
+
+  -- Whatever it answers, every other byte of the file stays, and the file is as long as it was.
+  pub others-stay : (at : ℕ) → (Stored at → ⊥) → getD (writeOf cpu memory file .row) at 0 ≡ getD file at 0
+  others-stay at other = go (ℕ-discrete (writeRefusal memory file) 0)
+    where
+      go : Dec (writeRefusal memory file ≡ 0) → getD (writeOf cpu memory file .row) at 0 ≡ getD file at 0
+      go (yes z) = rw (eq-eqb _ _ z) (laid-elsewhere (written memory file z .1) at other)
+      go (no n) = rw (ne-eqb _ _ n)
+
+  laid-length : length (laid cpu memory file) ≡ length file
+  laid-length = length-sets (sets file 37 (recordBytes cpu)) 256 memory ∙ length-sets file 37 (recordBytes cpu)
+
+  pub same-length : length (writeOf cpu memory file .row) ≡ length file
+  same-length = go (ℕ-discrete (writeRefusal memory file) 0)
+    where
+      go : Dec (writeRefusal memory file ≡ 0) → length (writeOf cpu memory file .row) ≡ length file
+      go (yes z) = rw (eq-eqb _ _ z) laid-length
+      go (no n) = rw (ne-eqb _ _ n)
+
+-- ---- both ways round
+
+module _ (file : List ℕ) (bytes : Bytes file) where
+  same-record : sets file 37 (recordBytes (recordIn file)) ≡ file
+  unfolding recordBytes recordIn
+  same-record =
+      let low : wordOf (getD file 37 0) (getD file 38 0) % 256 ≡ getD file 37 0 = omega (arith, bytes 37) in
+      let high : wordOf (getD file 37 0) (getD file 38 0) / 256 ≡ getD file 38 0 = omega (arith, bytes 37) in
+      rw (low, high, byte-to-flags-and-back (getD file 42 0) (bytes 42)) (
+      rw (
+        set-getD file 37 0,
+        set-getD file 38 0,
+        set-getD file 39 0,
+        set-getD file 40 0,
+        set-getD file 41 0,
+        set-getD file 42 0,
+        set-getD file 43 0,
+      )
+      )
+
+  same-file : Accepted file → laid (recordIn file) (memoryIn file) file ≡ file
+  same-file a = rw same-record (stored-again 65536 file 256 (omega (arith, a .size)))
+
+  -- Reading a file and then writing into it what was read changes nothing; a file that is refused is refused both times, and for one reason.
+  pub read-then-write : writeOf (readOf file .cpu) (memoryOf file) file ≡ filled (refusalOf file) file
+  read-then-write = go (ℕ-discrete (refusalOf file) 0)
+    where
+      go : Dec (refusalOf file ≡ 0) → writeOf (readOf file .cpu) (memoryOf file) file ≡ filled (refusalOf file) file
+      go (yes z) =
+          let part = length-take-le 65536 (drop 256 file) (rw length-drop (omega (arith, accepted z .size))) in
+          rw (eq-eqb _ _ z, eq-eqb _ _ (writes (memoryIn file) file (accepted z) part), same-file (accepted z), z)
+      go (no n) = refused-file (memoryOf file) file (readOf file .cpu) n
+
+-- what reading gives where a write left its file
+pub record GivesBack (cpu : Processor) (memory file : List ℕ) : Type 0 where
+  pub read : readOf file ≡ fileRead 0 cpu
+  pub part : memoryOf file ≡ memory
+
+module _ (cpu : Processor) (memory file : List ℕ) where
+  module _ (a : Accepted file) (size : length memory ≡ 65536) where
+    still-accepted : Accepted (laid cpu memory file)
+    still-accepted = record {
+      size = laid-length cpu memory file ∙ a .size;
+      begins =
+          before-stored 33 memory (sets file 37 (recordBytes cpu)) 256 (omega arith)
+          ∙ before-stored 33 (recordBytes cpu) file 37 (omega arith)
+          ∙ a .begins;
+    }
+
+    laid-record : (i : ℕ) → i < 7 → getD (laid cpu memory file) (37 + i) 0 ≡ getD (recordBytes cpu) i 0
+    unfolding recordBytes
+    laid-record i h =
+        other-place memory (sets file 37 (recordBytes cpu)) 256 (37 + i) (λ j k e. omega arith)
+        ∙ stored-place (recordBytes cpu) file 37 i (omega (arith, a .size)) h
+
+    same-registers : recordIn (laid cpu memory file) ≡ cpu
+    unfolding recordIn recordBytes
+    same-registers =
+        let word : wordOf (cpu .pc % 256) (cpu .pc / 256) ≡ cpu .pc = omega arith in
+        rw (
+          laid-record 0 (omega arith),
+          laid-record 1 (omega arith),
+          laid-record 2 (omega arith),
+          laid-record 3 (omega arith),
+          laid-record 4 (omega arith),
+          laid-record 5 (omega arith),
+          laid-record 6 (omega arith),
+          word,
+          flags-to-byte-and-back (cpu .psw),
+        )
+
+    same-memory : memoryIn (laid cpu memory file) ≡ memory
+    same-memory =
+        let room : 256 + length memory ≤ length (sets file 37 (recordBytes cpu)) = rw length-sets (omega (arith, a .size, size)) in
+        rw size at (stored-part memory (sets file 37 (recordBytes cpu)) 256 room)
+
+  -- Writing and then reading gives back what was written.
+  pub write-then-read : writeOf cpu memory file .answer ≡ 0 → GivesBack cpu memory (writeOf cpu memory file .row)
+  write-then-read e = go (ℕ-discrete (writeRefusal memory file) 0)
+    where
+      go : Dec (writeRefusal memory file ≡ 0) → GivesBack cpu memory (writeOf cpu memory file .row)
+      go (yes z) =
+          let w = written memory file z in
+          let again = eq-eqb _ _ (accepts (still-accepted (w .0) (w .1))) in
+          rw (eq-eqb _ _ z) (record { read = rw (again, same-registers (w .0) (w .1)); part = rw (again, same-memory (w .0) (w .1)) })
+      go (no n) = absurd (n (rw (ne-eqb _ _ n) at e))
