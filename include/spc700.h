@@ -1,4 +1,4 @@
-/* The SPC700 for C and C++: one step, a run, a count of marks, one instruction's text.
+/* The SPC700 for C and C++: one step, a run, a count of marks, one instruction's text, SPC files.
  *
  * The functions are those of the proved crate `exports`. `rt staticlib exports` writes them to target/staticlib/libexports.a, for
  * programs on x86-64 Linux:
@@ -35,20 +35,25 @@
 extern "C" {
 #endif
 
-/* How many bytes registers, memory and each map have, and how many numbers a count of marks gives. */
+/* How many bytes registers, memory, each map and an SPC file have, and how many numbers a count of marks gives. */
 #define SPC700_REGISTERS 7
 #define SPC700_MEMORY 65536
 #define SPC700_MAP 8192
+#define SPC700_FILE 66048
 #define SPC700_COUNTS 3
 
-/* Refusals. Where a call could be refused for several reasons, 6 comes first, then SPC700_WRONG_MEMORY, then SPC700_WRONG_MAP; of a text
- * SPC700_CUT comes before SPC700_NO_ROOM. */
+/* Where in an SPC file the memory begins. */
+#define SPC700_FILE_MEMORY 256
+
+/* Refusals. Where a call could be refused for several reasons, the one that stands first in its own list of refusals below is answered. */
 #define SPC700_WRONG_MEMORY 1    /* memory is not 65,536 bytes */
 #define SPC700_WRONG_MAP 2       /* a map is not 8,192 bytes */
 #define SPC700_NO_ROOM 3         /* the text is longer than its buffer */
 #define SPC700_CUT 4             /* fewer bytes than the instruction has */
 #define SPC700_WRONG_REGISTERS 6 /* the registers are not 7 bytes */
 #define SPC700_WRONG_COUNTS 6    /* the row for a count is not 3 numbers */
+#define SPC700_WRONG_FILE 7      /* the file is not 66,048 bytes */
+#define SPC700_NO_SPC_FILE 8     /* the file's first 33 bytes are not those of an SPC file */
 
 /* Why a run stopped. A step has the same stops: 0 where its instruction was neither of the two. */
 #define SPC700_STOP_BUDGET 0 /* as many steps as the budget allows were taken */
@@ -109,6 +114,33 @@ uint64_t spc700_counts(
 uint64_t spc700_text(
     const uint8_t *code, size_t code_length,
     uint8_t *text, size_t text_length);
+
+/* Reads the registers out of an SPC file, of which no byte changes.
+ *
+ * file        66,048 bytes. The first 33 are `SNES-SPC700 Sound File Data v0.30`.
+ * registers   as spc700_step takes them, which the call writes.
+ *
+ * The memory needs no call: where this one is not refused, it is the 65,536 bytes at file + 256 (SPC700_FILE_MEMORY). Files often go on
+ * behind byte 66,047, with tags. Such a file is refused with 7 where all of it is lent: lend the first 66,048 bytes.
+ *
+ * Answers 0: stop and number are 0, too.
+ * Refusals: 6, 7, 8. */
+uint64_t spc700_file_read(
+    const uint8_t *file, size_t file_length,
+    uint8_t *registers, size_t registers_length);
+
+/* Writes registers and memory into an SPC file. Its bytes 37 to 43 and 256 to 65,791 are written; all others stay as they are.
+ *
+ * file        as spc700_file_read takes it: the signature must stand there, so that a file is made of another file.
+ * registers   as spc700_step takes them. They stay as they are.
+ * memory      65,536 bytes, which stay as they are. It is no part of `file`, since no two regions overlap.
+ *
+ * Answers 0: stop and number are 0, too.
+ * Refusals: 6, 7, 8, 1. */
+uint64_t spc700_file_write(
+    uint8_t *file, size_t file_length,
+    const uint8_t *registers, size_t registers_length,
+    const uint8_t *memory, size_t memory_length);
 
 #ifdef __cplusplus
 }
