@@ -70,8 +70,8 @@ abbrev pub CallYields : (List ℕ → World → Called) → Lent → Lent → Le
 CallYields call registers memory reads writes r =
     called r (now (registers .exit)) (after memory reads writes) ≡ call (now (registers .entry)) (before memory reads writes)
 
--- What a call leaves that fills a lent row of n numbers: 6 exactly if the row has another length, before all others; where the work is
--- refused, its number, and the row stays as it was; else `new` is in the row.
+-- A call that fills a lent row of n numbers: 6 exactly if the row has another length, before all others; then the refusal of its work, if
+-- there is one; else `new` in the row. Refused, the row stays as it was.
 abbrev pub intoRow : ℕ → ℕ → List ℕ → List ℕ → Filled
 intoRow n refusal new row =
     cond (eqb (length row) n)

@@ -13,14 +13,16 @@ pub all-stored : (xs row : List ℕ) → length row ≡ length xs → sets row 0
 all-stored xs row h = sets-eq xs row 0 (omega arith) ∙ rw (zero-add, ← h, drop-length row, append-nil xs)
 
 -- Another place keeps its number.
-pub other-place : (xs row : List ℕ) (from at : ℕ) → ((i : ℕ) → i < length xs → at ≡ from + i → ⊥) → getD (sets row from xs) at 0 ≡ getD row at 0
+pub other-place : (xs row : List ℕ) (from at : ℕ) → ((i : ℕ) → i < length xs → at ≡ from + i → ⊥)
+    → getD (sets row from xs) at 0 ≡ getD row at 0
 other-place [] row from at other = refl
 other-place (x ∷ xs) row from at other =
     other-place xs (set row from x) (suc from) at (λ i h e. other (suc i) (omega arith) (omega arith))
     ∙ getD-set-other row from at x 0 (λ e. other 0 (omega arith) (omega arith))
 
 -- The places that were stored to have the numbers.
-pub stored-place : (xs row : List ℕ) (from i : ℕ) → from + length xs ≤ length row → i < length xs → getD (sets row from xs) (from + i) 0 ≡ getD xs i 0
+pub stored-place : (xs row : List ℕ) (from i : ℕ) → from + length xs ≤ length row → i < length xs
+    → getD (sets row from xs) (from + i) 0 ≡ getD xs i 0
 stored-place [] row from i room h = absurd (omega arith)
 stored-place (x ∷ xs) row from zero room h =
     rw add-zero (other-place xs (set row from x) (suc from) from (λ i k e. omega arith) ∙ getD-set-same row from x 0 (omega arith))
@@ -35,8 +37,9 @@ before-stored n (x ∷ xs) row from h = before-stored n xs (set row from x) (suc
 -- The part that was stored is what was stored.
 pub stored-part : (xs row : List ℕ) (from : ℕ) → from + length xs ≤ length row → take (length xs) (drop from (sets row from xs)) ≡ xs
 stored-part xs row from room =
-    rw (sets-eq xs row from room, append-assoc, drop-at (take from row) (xs ++ drop (from + length xs) row) from (length-take-le from row (omega arith)))
-    (take-at xs (drop (from + length xs) row) (length xs) refl)
+    let behind = drop (from + length xs) row in
+    rw (sets-eq xs row from room, append-assoc, drop-at (take from row) (xs ++ behind) from (length-take-le from row (omega arith)))
+    (take-at xs behind (length xs) refl)
 
 -- A part of the row, stored where it stands, changes nothing.
 pub stored-again : (n : ℕ) (row : List ℕ) (from : ℕ) → from + n ≤ length row → sets row from (take n (drop from row)) ≡ row

@@ -5,8 +5,8 @@ use mathlib.Core.Path.{_≡_, sym, _∙_}
 use mathlib.Core.List.{List}
 use native.Mathlib.Omega.{arith}
 use lib.ListN.{length}
-use Rattle.spc_file.specs.Calls.{refusalOf, writeRefusal}
-use Rattle.spc_file.specs.Theorems.{accepted, written}
+use Rattle.spc_file.specs.Calls.{refusalOf}
+use Rattle.spc_file.specs.Theorems.{accepted}
 
 module _ (file : List ℕ) {refusal : ℕ} (z : refusal ≡ 0) (is : refusal ≡ refusalOf file) where
   -- its length

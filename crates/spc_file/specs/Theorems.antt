@@ -3,7 +3,7 @@
 -- Assumes nothing.
 use Prim.Native.Nat.{ℕ, _+_, _/_, _%_, _<_, _≤_}
 use mathlib.Core.Path.{_≡_, refl, _∙_}
-use mathlib.Core.List.{List, [], _∷_, List-discrete}
+use mathlib.Core.List.{List, List-discrete}
 use mathlib.Core.Logic.{_⊎_, inl, inr, if-pos, if-neg}
 use native.Mathlib.Decide.{ℕ-discrete}
 use native.Mathlib.Omega.{arith}
@@ -38,7 +38,9 @@ accepted {file} e = go (ℕ-discrete (length file) 66048) (List-discrete ℕ-dis
   where
     go : Dec (length file ≡ 66048) → Dec (take 33 file ≡ signature) → Accepted file
     go (yes size) (yes begins) = record { size = size; begins = begins }
-    go (yes size) (no n) = absurd (omega (arith, rw (eq-eqb _ _ size, if-neg {C = ℕ} (List-discrete ℕ-discrete (take 33 file) signature) n 0 8) at e))
+    go (yes size) (no n) =
+        let others = if-neg {C = ℕ} (List-discrete ℕ-discrete (take 33 file) signature) n 0 8 in
+        absurd (omega (arith, rw (eq-eqb _ _ size, others) at e))
     go (no n) begins = absurd (omega (arith, rw (ne-eqb _ _ n) at e))
 
 -- ---- a write
@@ -75,23 +77,24 @@ module _ (cpu : Processor) (memory file : List ℕ) where
       other-place memory (sets file 37 (recordBytes cpu)) 256 at (λ i h e. other (inr (omega arith, omega arith)))
       ∙ other-place (recordBytes cpu) file 37 at (λ i h e. other (inl (omega arith, omega arith)))
 
-  -- Whatever it answers, every other byte of the file stays, and the file is as long as it was.
-  pub others-stay : (at : ℕ) → (Stored at → ⊥) → getD (writeOf cpu memory file .row) at 0 ≡ getD file at 0
-  others-stay at other = go (ℕ-discrete (writeRefusal memory file) 0)
-    where
-      go : Dec (writeRefusal memory file ≡ 0) → getD (writeOf cpu memory file .row) at 0 ≡ getD file at 0
-      go (yes z) = rw (eq-eqb _ _ z) (laid-elsewhere (written memory file z .1) at other)
-      go (no n) = rw (ne-eqb _ _ n)
-
   laid-length : length (laid cpu memory file) ≡ length file
   laid-length = length-sets (sets file 37 (recordBytes cpu)) 256 memory ∙ length-sets file 37 (recordBytes cpu)
 
-  pub same-length : length (writeOf cpu memory file .row) ≡ length file
-  same-length = go (ℕ-discrete (writeRefusal memory file) 0)
+  -- what holds of the file as it was, and with record and memory in it where they are accepted, holds of the file that is left
+  left : (P : List ℕ → Type 0) → P file → (writeRefusal memory file ≡ 0 → P (laid cpu memory file)) → P (writeOf cpu memory file .row)
+  left P as-it-was accepted = go (ℕ-discrete (writeRefusal memory file) 0)
     where
-      go : Dec (writeRefusal memory file ≡ 0) → length (writeOf cpu memory file .row) ≡ length file
-      go (yes z) = rw (eq-eqb _ _ z) laid-length
-      go (no n) = rw (ne-eqb _ _ n)
+      go : Dec (writeRefusal memory file ≡ 0) → P (writeOf cpu memory file .row)
+      go (yes z) = rw (eq-eqb _ _ z) (accepted z)
+      go (no n) = rw (ne-eqb _ _ n) as-it-was
+
+  -- Whatever it answers, every other byte of the file stays,
+  pub others-stay : (at : ℕ) → (Stored at → ⊥) → getD (writeOf cpu memory file .row) at 0 ≡ getD file at 0
+  others-stay at other = left (λ l. getD l at 0 ≡ getD file at 0) refl (λ z. laid-elsewhere (written memory file z .1) at other)
+
+  -- and the file is as long as it was.
+  pub same-length : length (writeOf cpu memory file .row) ≡ length file
+  same-length = left (λ l. length l ≡ length file) refl (λ z. laid-length)
 
 -- ---- both ways round
 
@@ -101,8 +104,10 @@ module _ (file : List ℕ) (bytes : Bytes file) where
   same-record =
       let low : wordOf (getD file 37 0) (getD file 38 0) % 256 ≡ getD file 37 0 = omega (arith, bytes 37) in
       let high : wordOf (getD file 37 0) (getD file 38 0) / 256 ≡ getD file 38 0 = omega (arith, bytes 37) in
-      rw (low, high, byte-to-flags-and-back (getD file 42 0) (bytes 42)) (
       rw (
+        low,
+        high,
+        byte-to-flags-and-back (getD file 42 0) (bytes 42),
         set-getD file 37 0,
         set-getD file 38 0,
         set-getD file 39 0,
@@ -111,12 +116,11 @@ module _ (file : List ℕ) (bytes : Bytes file) where
         set-getD file 42 0,
         set-getD file 43 0,
       )
-      )
 
   same-file : Accepted file → laid (recordIn file) (memoryIn file) file ≡ file
   same-file a = rw same-record (stored-again 65536 file 256 (omega (arith, a .size)))
 
-  -- Reading a file and then writing into it what was read changes nothing; a file that is refused is refused both times, and for one reason.
+  -- Reading a file and then writing into it what was read changes nothing; a file that is refused is refused both times, with one number.
   pub read-then-write : writeOf (readOf file .cpu) (memoryOf file) file ≡ filled (refusalOf file) file
   read-then-write = go (ℕ-discrete (refusalOf file) 0)
     where
@@ -126,7 +130,7 @@ module _ (file : List ℕ) (bytes : Bytes file) where
           rw (eq-eqb _ _ z, eq-eqb _ _ (writes (memoryIn file) file (accepted z) part), same-file (accepted z), z)
       go (no n) = refused-file (memoryOf file) file (readOf file .cpu) n
 
--- what reading gives where a write left its file
+-- what reading gives of a file in which this record and this memory stand
 pub record GivesBack (cpu : Processor) (memory file : List ℕ) : Type 0 where
   pub read : readOf file ≡ fileRead 0 cpu
   pub part : memoryOf file ≡ memory

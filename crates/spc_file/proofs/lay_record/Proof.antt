@@ -14,7 +14,8 @@ use Rattle.spc_file.proofs.lay_record.Statement.{statement}
 use Rattle.spc_file.proofs.lay_record.Tie as tie
 
 seven-laid : (file : List ℕ) (cpu : Processor) (status : ℕ) → status ≡ byteOf (cpu .psw)
-    → set (set (set (set (set (set (set file 37 (cpu .pc % 256)) 38 (cpu .pc / 256)) 39 (cpu .a)) 40 (cpu .x)) 41 (cpu .y)) 42 status) 43 (cpu .sp)
+    → set (set (set (set (set (set (set file 37 (cpu .pc % 256)) 38 (cpu .pc / 256)) 39 (cpu .a)) 40 (cpu .x)) 41 (cpu .y)) 42 status)
+    43 (cpu .sp)
     ≡ sets file 37 (recordBytes cpu)
 unfolding recordBytes
 seven-laid file cpu status e = rw e

@@ -13,8 +13,11 @@ use Rattle.spc_file.specs.Layout.{recordIn}
 use Rattle.spc_file.proofs.record_in.Statement.{statement}
 use Rattle.spc_file.proofs.record_in.Tie as tie
 
+abbrev record-of : List ℕ → ℕ → ProgramStatusWord → Processor
+record-of file pc psw = record { pc = pc; a = getD file 39 0; x = getD file 40 0; y = getD file 41 0; psw = psw; sp = getD file 43 0 }
+
 held : (file : List ℕ) {pc : ℕ} {psw : ProgramStatusWord} → pc ≡ wordOf (getD file 37 0) (getD file 38 0) → psw ≡ flagsOf (getD file 42 0)
-    → _≡_ {A = Processor} (record { pc = pc; a = getD file 39 0; x = getD file 40 0; y = getD file 41 0; psw = psw; sp = getD file 43 0 }) (recordIn file)
+    → record-of file pc psw ≡ recordIn file
 unfolding recordIn
 held file p f = rw (p, f)
 

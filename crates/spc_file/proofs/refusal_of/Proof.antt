@@ -21,15 +21,19 @@ module _ (file : List ℕ) where
   unfolding refusalOf
   another-length n = rw (ne-eqb _ _ n)
 
-  module _ {same : Bool} (size : length file ≡ 66048) (tells : (same ≡ true → take 33 file ≡ signature) × (take 33 file ≡ signature → same ≡ true)) where
-    signed : same ≡ true → 0 ≡ refusalOf file
-    signed t = sym (accepts (record { size = size; begins = tells .0 t }))
+  module _
+      {same : Bool}
+      (size : length file ≡ 66048)
+      (tells : (same ≡ true → take 33 file ≡ signature) × (take 33 file ≡ signature → same ≡ true))
+    where
+      signed : same ≡ true → 0 ≡ refusalOf file
+      signed t = sym (accepts (record { size = size; begins = tells .0 t }))
 
-    unsigned : same ≡ false → 8 ≡ refusalOf file
-    unfolding refusalOf
-    unsigned f =
-        let other : take 33 file ≡ signature → ⊥ = λ e. true≢false (sym (tells .1 e) ∙ f) in
-        rw (eq-eqb _ _ size) (sym (if-neg {C = ℕ} (List-discrete ℕ-discrete (take 33 file) signature) other 0 8))
+      unsigned : same ≡ false → 8 ≡ refusalOf file
+      unfolding refusalOf
+      unsigned f =
+          let other : take 33 file ≡ signature → ⊥ = λ e. true≢false (sym (tells .1 e) ∙ f) in
+          rw (eq-eqb _ _ size) (sym (if-neg {C = ℕ} (List-discrete ℕ-discrete (take 33 file) signature) other 0 8))
 
 returns : tie.Need-returns
 returns c = search (needs, another-length)
