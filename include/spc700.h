@@ -131,7 +131,7 @@ uint64_t spc700_file_read(
 
 /* Writes registers and memory into an SPC file. Its bytes 37 to 43 and 256 to 65,791 are written; all others stay as they are.
  *
- * file        as spc700_file_read takes it: the signature must stand there, so that a file is made of another file.
+ * file        as spc700_file_read takes it. The first 33 bytes must stand there already: the call makes no file out of other bytes.
  * registers   as spc700_step takes them. They stay as they are.
  * memory      65,536 bytes, which stay as they are. It is no part of `file`, since no two regions overlap.
  *

@@ -97,7 +97,7 @@ fileReadCall file = recordInto (readOf file)
 abbrev pub fileWriteCall : List ℕ → List ℕ → List ℕ → Filled
 fileWriteCall registers memory file =
     let o = writeOf (registersOf registers) memory file in
-    cond (eqb (length registers) 7) (filled (packed (o .answer) 0 0) (o .row)) (filled (packed 6 0 0) file)
+    cond (eqb (length registers) 7) (filled (packed (o .answer) 0 0) (o .left)) (filled (packed 6 0 0) file)
 
 -- a text
 abbrev pub textNumber : Written → ℕ

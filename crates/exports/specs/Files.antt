@@ -31,7 +31,7 @@ module _ (file registers : List ℕ) (seven : length registers ≡ 7) where
   read-accepted e = rw (eq-eqb _ _ seven, e)
 
   wrote : (memory : List ℕ) {o : Filled} → writeOf (registersOf registers) memory file ≡ o
-      → fileWriteCall registers memory file ≡ filled (packed (o .answer) 0 0) (o .row)
+      → fileWriteCall registers memory file ≡ filled (packed (o .answer) 0 0) (o .left)
   wrote memory e = rw (eq-eqb _ _ seven, e)
 
 -- ---- both ways round
@@ -39,11 +39,11 @@ module _ (file registers : List ℕ) (seven : length registers ≡ 7) where
 -- Reading a file, and then writing into it the registers' bytes as they are by then and the memory that the file has, answers the same both
 -- times and changes nothing.
 pub read-then-write : (file registers : List ℕ) → Bytes file
-    → fileWriteCall (fileReadCall file registers .row) (memoryOf file) file ≡ filled (fileReadCall file registers .answer) file
+    → fileWriteCall (fileReadCall file registers .left) (memoryOf file) file ≡ filled (fileReadCall file registers .answer) file
 read-then-write file registers bytes = go (ℕ-discrete (length registers) 7) (ℕ-discrete (refusalOf file) 0)
   where
     go : Dec (length registers ≡ 7) → Dec (refusalOf file ≡ 0)
-        → fileWriteCall (fileReadCall file registers .row) (memoryOf file) file ≡ filled (fileReadCall file registers .answer) file
+        → fileWriteCall (fileReadCall file registers .left) (memoryOf file) file ≡ filled (fileReadCall file registers .answer) file
     go (no n) d = rw (ne-eqb _ _ n, ne-eqb _ _ n)
     go (yes s) (no n) =
         rw (read-refused file registers s n)
@@ -62,10 +62,10 @@ pub record GivesBack (registers memory file : List ℕ) : Type 0 where
 
 -- Writing and then reading gives back what was written.
 pub write-then-read : (registers memory file : List ℕ) → Bytes registers → fileWriteCall registers memory file .answer ≡ 0
-    → GivesBack registers memory (fileWriteCall registers memory file .row)
+    → GivesBack registers memory (fileWriteCall registers memory file .left)
 write-then-read registers memory file bytes e = go (ℕ-discrete (length registers) 7)
   where
-    go : Dec (length registers ≡ 7) → GivesBack registers memory (fileWriteCall registers memory file .row)
+    go : Dec (length registers ≡ 7) → GivesBack registers memory (fileWriteCall registers memory file .left)
     go (no n) = absurd (omega (arith, rw (ne-eqb _ _ n) at e))
     go (yes s) =
         let answered = rw (eq-eqb _ _ s) at e in

@@ -5,14 +5,14 @@ use mathlib.Core.List.{List}
 use denote.Ref.{now}
 use Rattle.laws.specs.Lent.{Lent}
 
--- the answer, and what the slice holds after it
+-- the answer, and what is left in the slice
 pub record Filled : Type 0 where
   pub answer : ℕ
-  pub row : List ℕ
+  pub left : List ℕ
 
 abbrev pub filled : ℕ → List ℕ → Filled
-filled answer row = record { answer = answer; row = row }
+filled answer left = record { answer = answer; left = left }
 
 -- It answers and leaves what `call` makes of what the slice held before.
 abbrev pub Fills : (List ℕ → Filled) → Lent → ℕ → Type 0
-Fills call row r = filled r (now (row .exit)) ≡ call (now (row .entry))
+Fills call slice r = filled r (now (slice .exit)) ≡ call (now (slice .entry))

@@ -59,4 +59,4 @@ calls p q =
 
 -- a call that answers a number and writes to one slice
 pub fills : {x y : ℕ} {a b : List ℕ} {c : Filled} → filled x a ≡ c → filled y b ≡ c → (x ≡ y) × (a ≡ b)
-fills p q = let same = p ∙ sym q in (ap (λ c. c .answer) same, ap (λ c. c .row) same)
+fills p q = let same = p ∙ sym q in (ap (λ c. c .answer) same, ap (λ c. c .left) same)

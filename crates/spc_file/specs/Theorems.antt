@@ -81,20 +81,20 @@ module _ (cpu : Processor) (memory file : List ℕ) where
   laid-length = length-sets (sets file 37 (recordBytes cpu)) 256 memory ∙ length-sets file 37 (recordBytes cpu)
 
   -- what holds of the file as it was, and with record and memory in it where they are accepted, holds of the file that is left
-  left : (P : List ℕ → Type 0) → P file → (writeRefusal memory file ≡ 0 → P (laid cpu memory file)) → P (writeOf cpu memory file .row)
-  left P as-it-was accepted = go (ℕ-discrete (writeRefusal memory file) 0)
+  of-what-is-left : (P : List ℕ → Type 0) → P file → (writeRefusal memory file ≡ 0 → P (laid cpu memory file)) → P (writeOf cpu memory file .left)
+  of-what-is-left P as-it-was accepted = go (ℕ-discrete (writeRefusal memory file) 0)
     where
-      go : Dec (writeRefusal memory file ≡ 0) → P (writeOf cpu memory file .row)
+      go : Dec (writeRefusal memory file ≡ 0) → P (writeOf cpu memory file .left)
       go (yes z) = rw (eq-eqb _ _ z) (accepted z)
       go (no n) = rw (ne-eqb _ _ n) as-it-was
 
   -- Whatever it answers, every other byte of the file stays,
-  pub others-stay : (at : ℕ) → (Stored at → ⊥) → getD (writeOf cpu memory file .row) at 0 ≡ getD file at 0
-  others-stay at other = left (λ l. getD l at 0 ≡ getD file at 0) refl (λ z. laid-elsewhere (written memory file z .1) at other)
+  pub others-stay : (at : ℕ) → (Stored at → ⊥) → getD (writeOf cpu memory file .left) at 0 ≡ getD file at 0
+  others-stay at other = of-what-is-left (λ l. getD l at 0 ≡ getD file at 0) refl (λ z. laid-elsewhere (written memory file z .1) at other)
 
   -- and the file is as long as it was.
-  pub same-length : length (writeOf cpu memory file .row) ≡ length file
-  same-length = left (λ l. length l ≡ length file) refl (λ z. laid-length)
+  pub same-length : length (writeOf cpu memory file .left) ≡ length file
+  same-length = of-what-is-left (λ l. length l ≡ length file) refl (λ z. laid-length)
 
 -- ---- both ways round
 
@@ -174,10 +174,10 @@ module _ (cpu : Processor) (memory file : List ℕ) where
         rw size at (stored-part memory (sets file 37 (recordBytes cpu)) 256 room)
 
   -- Writing and then reading gives back what was written.
-  pub write-then-read : writeOf cpu memory file .answer ≡ 0 → GivesBack cpu memory (writeOf cpu memory file .row)
+  pub write-then-read : writeOf cpu memory file .answer ≡ 0 → GivesBack cpu memory (writeOf cpu memory file .left)
   write-then-read e = go (ℕ-discrete (writeRefusal memory file) 0)
     where
-      go : Dec (writeRefusal memory file ≡ 0) → GivesBack cpu memory (writeOf cpu memory file .row)
+      go : Dec (writeRefusal memory file ≡ 0) → GivesBack cpu memory (writeOf cpu memory file .left)
       go (yes z) =
           let w = written memory file z in
           let again = eq-eqb _ _ (accepts (still-accepted (w .0) (w .1))) in
