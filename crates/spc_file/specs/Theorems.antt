@@ -2,7 +2,7 @@
 -- The one hypothesis is that a file holds bytes, which the code's types give.
 -- Assumes nothing.
 use Prim.Native.Nat.{ℕ, _+_, _/_, _%_, _<_, _≤_}
-use mathlib.Core.Path.{_≡_, refl, _∙_}
+use mathlib.Core.Path.{_≡_, refl, sym, ap, subst, _∙_}
 use mathlib.Core.List.{List, List-discrete}
 use mathlib.Core.Logic.{_⊎_, inl, inr, if-pos, if-neg}
 use native.Mathlib.Decide.{ℕ-discrete}
@@ -11,13 +11,14 @@ use lib.ListN.{length, getD, take, drop, length-drop}
 use lib.Seq.{sets, length-sets, length-take-le, set-getD}
 use borrow.Author.Tests.{eq-eqb, ne-eqb}
 use Rattle.laws.specs.Bytes.{Bytes}
-use Rattle.laws.specs.Filled.{filled}
+use Rattle.laws.specs.Filled.{Filled, filled}
 use Rattle.laws.specs.Stored.{other-place, stored-place, before-stored, stored-part, stored-again}
 use Rattle.psw.specs.Theorems.{byte-to-flags-and-back, flags-to-byte-and-back}
 use Rattle.processor.specs.Record.{wordOf}
 use Rattle.processor.specs.declared.Processor.{Processor}
 use Rattle.spc_file.specs.Layout.{signature, recordIn, recordBytes, memoryIn, laid}
 use Rattle.spc_file.specs.Calls.{refusalOf, fileRead, readOf, memoryOf, writeRefusal, writeOf}
+use Rattle.spc_file.specs.declared.FileRead.{FileRead}
 
 -- ---- which files are accepted
 
@@ -42,6 +43,13 @@ accepted {file} e = go (ℕ-discrete (length file) 66048) (List-discrete ℕ-dis
         let others = if-neg {C = ℕ} (List-discrete ℕ-discrete (take 33 file) signature) n 0 8 in
         absurd (omega (arith, rw (eq-eqb _ _ size, others) at e))
     go (no n) begins = absurd (omega (arith, rw (ne-eqb _ _ n) at e))
+
+-- What reading then gives.
+pub gives-record : (file : List ℕ) → refusalOf file ≡ 0 → readOf file ≡ fileRead 0 (recordIn file)
+gives-record file z = rw (eq-eqb _ _ z)
+
+pub gives-part : (file : List ℕ) → refusalOf file ≡ 0 → memoryOf file ≡ memoryIn file
+gives-part file z = rw (eq-eqb _ _ z)
 
 -- ---- a write
 
@@ -77,11 +85,16 @@ module _ (cpu : Processor) (memory file : List ℕ) where
       other-place memory (sets file 37 (recordBytes cpu)) 256 at (λ i h e. other (inr (omega arith, omega arith)))
       ∙ other-place (recordBytes cpu) file 37 at (λ i h e. other (inl (omega arith, omega arith)))
 
+  -- Accepted, it leaves record and memory in their places.
+  pub lays : writeRefusal memory file ≡ 0 → writeOf cpu memory file ≡ filled 0 (laid cpu memory file)
+  lays z = rw (eq-eqb _ _ z)
+
   laid-length : length (laid cpu memory file) ≡ length file
   laid-length = length-sets (sets file 37 (recordBytes cpu)) 256 memory ∙ length-sets file 37 (recordBytes cpu)
 
   -- what holds of the file as it was, and with record and memory in it where they are accepted, holds of the file that is left
-  of-what-is-left : (P : List ℕ → Type 0) → P file → (writeRefusal memory file ≡ 0 → P (laid cpu memory file)) → P (writeOf cpu memory file .left)
+  of-what-is-left : (P : List ℕ → Type 0) → P file → (writeRefusal memory file ≡ 0 → P (laid cpu memory file))
+      → P (writeOf cpu memory file .left)
   of-what-is-left P as-it-was accepted = go (ℕ-discrete (writeRefusal memory file) 0)
     where
       go : Dec (writeRefusal memory file ≡ 0) → P (writeOf cpu memory file .left)
@@ -127,7 +140,11 @@ module _ (file : List ℕ) (bytes : Bytes file) where
       go : Dec (refusalOf file ≡ 0) → writeOf (readOf file .cpu) (memoryOf file) file ≡ filled (refusalOf file) file
       go (yes z) =
           let part = length-take-le 65536 (drop 256 file) (rw length-drop (omega (arith, accepted z .size))) in
-          rw (eq-eqb _ _ z, eq-eqb _ _ (writes (memoryIn file) file (accepted z) part), same-file (accepted z), z)
+          ap (λ (f : FileRead). writeOf (f .cpu) (memoryOf file) file) (gives-record file z)
+          ∙ ap (λ (m : List ℕ). writeOf (recordIn file) m file) (gives-part file z)
+          ∙ lays (recordIn file) (memoryIn file) file (writes (memoryIn file) file (accepted z) part)
+          ∙ ap (λ (l : List ℕ). filled 0 l) (same-file (accepted z))
+          ∙ ap (λ (n : ℕ). filled n file) (sym z)
       go (no n) = refused-file (memoryOf file) file (readOf file .cpu) n
 
 -- what reading gives of a file in which this record and this memory stand
@@ -173,6 +190,12 @@ module _ (cpu : Processor) (memory file : List ℕ) where
         let room : 256 + length memory ≤ length (sets file 37 (recordBytes cpu)) = rw length-sets (omega (arith, a .size, size)) in
         rw size at (stored-part memory (sets file 37 (recordBytes cpu)) 256 room)
 
+    laid-gives-back : GivesBack cpu memory (laid cpu memory file)
+    laid-gives-back = record {
+      read = gives-record (laid cpu memory file) (accepts still-accepted) ∙ ap (λ (c : Processor). fileRead 0 c) same-registers;
+      part = gives-part (laid cpu memory file) (accepts still-accepted) ∙ same-memory;
+    }
+
   -- Writing and then reading gives back what was written.
   pub write-then-read : writeOf cpu memory file .answer ≡ 0 → GivesBack cpu memory (writeOf cpu memory file .left)
   write-then-read e = go (ℕ-discrete (writeRefusal memory file) 0)
@@ -180,6 +203,5 @@ module _ (cpu : Processor) (memory file : List ℕ) where
       go : Dec (writeRefusal memory file ≡ 0) → GivesBack cpu memory (writeOf cpu memory file .left)
       go (yes z) =
           let w = written memory file z in
-          let again = eq-eqb _ _ (accepts (still-accepted (w .0) (w .1))) in
-          rw (eq-eqb _ _ z) (record { read = rw (again, same-registers (w .0) (w .1)); part = rw (again, same-memory (w .0) (w .1)) })
+          subst (λ (o : Filled). GivesBack cpu memory (o .left)) (sym (lays cpu memory file z)) (laid-gives-back (w .0) (w .1))
       go (no n) = absurd (n (rw (ne-eqb _ _ n) at e))
