@@ -36,6 +36,12 @@ module _ (file registers : List ℕ) (seven : length registers ≡ 7) where
 
 -- ---- both ways round
 
+-- The record, once it went through the seven bytes, is written as it was read.
+written-again : (file : List ℕ) → Bytes file → refusalOf file ≡ 0
+    → writeOf (registersOf (bytesOf (readOf file .cpu))) (memoryOf file) file ≡ filled 0 file
+written-again file bytes z =
+    rw (record-to-bytes-and-back (readOf file .cpu)) (spc.read-then-write file bytes ∙ ap (λ (n : ℕ). filled n file) z)
+
 -- Reading a file, and then writing into it the registers' bytes as they are by then and the memory that the file has, answers the same both
 -- times and changes nothing.
 pub read-then-write : (file registers : List ℕ) → Bytes file
@@ -51,9 +57,7 @@ read-then-write file registers bytes = go (ℕ-discrete (length registers) 7) (�
     go (yes s) (yes z) =
         let cpu = readOf file .cpu in
         let e : readOf file ≡ fileRead 0 cpu = rw (eq-eqb _ _ z) in
-        let again : writeOf (registersOf (bytesOf cpu)) (memoryOf file) file ≡ filled 0 file =
-        rw (record-to-bytes-and-back cpu) (spc.read-then-write file bytes ∙ ap (λ (n : ℕ). filled n file) z) in
-        rw (read-accepted file registers s e) (wrote file (bytesOf cpu) (seven-bytes cpu) (memoryOf file) again)
+        rw (read-accepted file registers s e) (wrote file (bytesOf cpu) (seven-bytes cpu) (memoryOf file) (written-again file bytes z))
 
 -- what the calls give back of a file
 pub record GivesBack (registers memory file : List ℕ) : Type 0 where

@@ -1,6 +1,5 @@
-// The library that other programs link: C's view of the engine, the count of marks, the listing and SPC files. include/spc700.h documents
-// it.
-// Every call takes its slices as pointer and length, has no condition, and answers one number.
+// The library that other programs link: C's view of the engine, the count of marks, the listing and SPC files, which include/spc700.h
+// documents. Every call takes its slices as pointer and length, has no condition, and answers one number.
 ghost use mathlib.Core.Path.{_≡_};
 ghost use lib.ListN.{length};
 ghost use Rattle.listing.specs.Instruction.{listedOf};
