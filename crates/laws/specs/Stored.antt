@@ -1,12 +1,12 @@
 -- Numbers that are stored one after the other, from a place of a row on (`sets`): what then stands where.
 -- Assumes nothing.
 use Prim.Native.Nat.{ℕ, zero, suc, _+_, _<_, _≤_}
-use mathlib.Core.Path.{_≡_, refl, _∙_}
+use mathlib.Core.Path.{_≡_, refl, ap, _∙_}
 use mathlib.Core.List.{List, [], _∷_, _++_, append-nil, append-assoc}
 use native.Mathlib.Nat.{zero-add, add-zero, suc-add, add-suc}
 use native.Mathlib.Omega.{arith}
 use lib.ListN.{length, getD, set, take, drop, length-set, length-drop, take-append-drop}
-use lib.Seq.{sets, sets-eq, drop-length, getD-set-same, getD-set-other, take-set-le, take-add, take-at, drop-at, length-take-le}
+use lib.Seq.{sets, sets-eq, drop-length, getD-set-same, getD-set-other, set-getD, take-set-le, take-add, take-at, drop-at, length-take-le}
 
 -- As many as a row has places leave nothing of what it held.
 pub all-stored : (xs row : List ℕ) → length row ≡ length xs → sets row 0 xs ≡ xs
@@ -41,7 +41,18 @@ stored-part xs row from room =
     rw (sets-eq xs row from room, append-assoc, drop-at (take from row) (xs ++ behind) from (length-take-le from row (omega arith)))
     (take-at xs behind (length xs) refl)
 
--- A part of the row, stored where it stands, changes nothing.
+-- the numbers at n places of a row, from one on
+abbrev pub standing : ℕ → ℕ → List ℕ → List ℕ
+standing zero from row = []
+standing (suc n) from row = getD row from 0 ∷ standing n (suc from) row
+
+-- Stored there again, they change nothing,
+pub standing-stays : (n from : ℕ) (row : List ℕ) → sets row from (standing n from row) ≡ row
+standing-stays zero from row = refl
+standing-stays (suc n) from row =
+    ap (λ (l : List ℕ). sets l (suc from) (standing n (suc from) row)) (set-getD row from 0) ∙ standing-stays n (suc from) row
+
+-- and no more does a part of the row.
 pub stored-again : (n : ℕ) (row : List ℕ) (from : ℕ) → from + n ≤ length row → sets row from (take n (drop from row)) ≡ row
 stored-again n row from room =
     let size = length-take-le n (drop from row) (rw length-drop (omega arith)) in

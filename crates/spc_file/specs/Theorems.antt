@@ -8,11 +8,11 @@ use mathlib.Core.Logic.{_⊎_, inl, inr, if-pos, if-neg}
 use native.Mathlib.Decide.{ℕ-discrete}
 use native.Mathlib.Omega.{arith}
 use lib.ListN.{length, getD, take, drop, length-drop}
-use lib.Seq.{sets, length-sets, length-take-le, set-getD}
+use lib.Seq.{sets, length-sets, length-take-le}
 use borrow.Author.Tests.{eq-eqb, ne-eqb}
 use Rattle.laws.specs.Bytes.{Bytes}
 use Rattle.laws.specs.Filled.{Filled, filled}
-use Rattle.laws.specs.Stored.{other-place, stored-place, before-stored, stored-part, stored-again}
+use Rattle.laws.specs.Stored.{other-place, stored-place, before-stored, stored-part, standing-stays, stored-again}
 use Rattle.psw.specs.Theorems.{byte-to-flags-and-back, flags-to-byte-and-back}
 use Rattle.processor.specs.Record.{wordOf}
 use Rattle.processor.specs.declared.Processor.{Processor}
@@ -117,18 +117,7 @@ module _ (file : List ℕ) (bytes : Bytes file) where
   same-record =
       let low : wordOf (getD file 37 0) (getD file 38 0) % 256 ≡ getD file 37 0 = omega (arith, bytes 37) in
       let high : wordOf (getD file 37 0) (getD file 38 0) / 256 ≡ getD file 38 0 = omega (arith, bytes 37) in
-      rw (
-        low,
-        high,
-        byte-to-flags-and-back (getD file 42 0) (bytes 42),
-        set-getD file 37 0,
-        set-getD file 38 0,
-        set-getD file 39 0,
-        set-getD file 40 0,
-        set-getD file 41 0,
-        set-getD file 42 0,
-        set-getD file 43 0,
-      )
+      rw (low, high, byte-to-flags-and-back (getD file 42 0) (bytes 42)) (standing-stays 7 37 file)
 
   same-file : Accepted file → laid (recordIn file) (memoryIn file) file ≡ file
   same-file a = rw same-record (stored-again 65536 file 256 (omega (arith, a .size)))

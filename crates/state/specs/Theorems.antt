@@ -2,12 +2,11 @@
 -- Assumes nothing.
 use Prim.Native.Nat.{ℕ, _/_, _%_}
 use mathlib.Core.Path.{_≡_, sym, _∙_}
-use mathlib.Core.List.{List, [], _∷_}
+use mathlib.Core.List.{List}
 use native.Mathlib.Omega.{arith}
 use lib.ListN.{length, getD}
-use lib.Seq.{set-getD}
 use Rattle.laws.specs.Bytes.{Bytes}
-use Rattle.laws.specs.Stored.{all-stored}
+use Rattle.laws.specs.Stored.{all-stored, standing, standing-stays}
 use Rattle.psw.specs.Theorems.{byte-to-flags-and-back, flags-to-byte-and-back}
 use Rattle.processor.specs.Record.{wordOf}
 use Rattle.processor.specs.declared.Processor.{Processor}
@@ -24,15 +23,5 @@ bytes-to-record-and-back bytes small seven =
     let b : ℕ → ℕ = λ i. getD bytes i 0 in
     let low : wordOf (b 4) (b 5) % 256 ≡ b 4 = omega (arith, small 4) in
     let high : wordOf (b 4) (b 5) / 256 ≡ b 5 = omega (arith, small 4) in
-    rw (low, high, byte-to-flags-and-back (b 6) (small 6)) (
-    sym (all-stored (b 0 ∷ b 1 ∷ b 2 ∷ b 3 ∷ b 4 ∷ b 5 ∷ b 6 ∷ []) bytes seven)
-    ∙ rw (
-      set-getD bytes 0 0,
-      set-getD bytes 1 0,
-      set-getD bytes 2 0,
-      set-getD bytes 3 0,
-      set-getD bytes 4 0,
-      set-getD bytes 5 0,
-      set-getD bytes 6 0,
-    )
-    )
+    let same : standing 7 0 bytes ≡ bytes = sym (all-stored (standing 7 0 bytes) bytes seven) ∙ standing-stays 7 0 bytes in
+    rw (low, high, byte-to-flags-and-back (b 6) (small 6)) same
