@@ -1,4 +1,4 @@
-/* The SPC700 for C and C++: one step, a run, a count of marks, one instruction's text, SPC files.
+/* The SPC700 for C and C++: one step, a run, a count of marks, one instruction's text, SPC files and state records.
  *
  * The functions are those of the proved crate `exports`. `rt staticlib exports` writes them to target/staticlib/libexports.a, for
  * programs on x86-64 Linux:
@@ -35,15 +35,19 @@
 extern "C" {
 #endif
 
-/* How many bytes registers, memory, each map and an SPC file have, and how many numbers a count of marks gives. */
+/* How many bytes registers, memory, each map, an SPC file and a state record have, and how many numbers a count of marks gives. */
 #define SPC700_REGISTERS 7
 #define SPC700_MEMORY 65536
 #define SPC700_MAP 8192
 #define SPC700_FILE 66048
+#define SPC700_RECORD 65543
 #define SPC700_COUNTS 3
 
 /* Where in an SPC file the memory begins. */
 #define SPC700_FILE_MEMORY 256
+
+/* Where in a state record the memory begins: behind the registers. */
+#define SPC700_RECORD_MEMORY 7
 
 /* Refusals. Where a call could be refused for several reasons, the one that stands first in its own list of refusals below is answered. */
 #define SPC700_WRONG_MEMORY 1    /* memory is not 65,536 bytes */
@@ -52,8 +56,10 @@ extern "C" {
 #define SPC700_CUT 4             /* fewer bytes than the instruction has */
 #define SPC700_WRONG_REGISTERS 6 /* the registers are not 7 bytes */
 #define SPC700_WRONG_COUNTS 6    /* the row for a count is not 3 numbers */
+#define SPC700_WRONG_RECORD 6    /* the state record is not 65,543 bytes */
 #define SPC700_WRONG_FILE 7      /* the file is not 66,048 bytes */
 #define SPC700_NO_SPC_FILE 8     /* the file's first 33 bytes are not those of an SPC file */
+#define SPC700_NOT_DEFAULT 10    /* a byte of the file that a state record has no place for is not its default */
 
 /* Why a run stopped. A step has the same stops: 0 where its instruction was neither of the two. */
 #define SPC700_STOP_BUDGET 0 /* as many steps as the budget allows were taken */
@@ -141,6 +147,32 @@ uint64_t spc700_file_write(
     uint8_t *file, size_t file_length,
     const uint8_t *registers, size_t registers_length,
     const uint8_t *memory, size_t memory_length);
+
+/* Makes an SPC file of a state record. Every byte of the file is written, whatever it held.
+ *
+ * file     66,048 bytes: the signature, the registers at 37 to 43, in the file's own order, the memory at 256 to 65,791. The other bytes
+ *          get their defaults: 26, 26, 27, 30 at 33 to 36, and zero at 44 to 255 and at 65,792 to 66,047. So it has zeros where files
+ *          have titles and the sound chip's registers.
+ * record   65,543 bytes, which stay as they are: the registers as spc700_step takes them, and the memory behind them.
+ *
+ * Answers 0: stop and number are 0, too.
+ * Refusals: 6, 7. */
+uint64_t spc700_file_from_record(
+    uint8_t *file, size_t file_length,
+    const uint8_t *record, size_t record_length);
+
+/* Makes a state record of an SPC file that holds nothing else: every byte which the record has no place for must have the default that
+ * spc700_file_from_record gives it, and then that call makes the same file of the record again. A file with titles or with the sound
+ * chip's registers is refused with 10, so that nothing is lost unseen: for its registers and memory there is spc700_file_read.
+ *
+ * record   65,543 bytes, all of which the call writes.
+ * file     as spc700_file_read takes it. It stays as it is.
+ *
+ * Answers 0: stop and number are 0, too.
+ * Refusals: 6, 7, 8, 10. */
+uint64_t spc700_record_from_file(
+    uint8_t *record, size_t record_length,
+    const uint8_t *file, size_t file_length);
 
 #ifdef __cplusplus
 }

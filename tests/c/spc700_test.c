@@ -1,4 +1,4 @@
-/* The static library as a C program sees it: every function but the two on SPC files, which tests/files tries, every refusal of theirs, and
+/* The static library as a C program sees it: every function but the four on SPC files, which tests/files tries, every refusal of theirs, and
  * that a refused call changes nothing. Prints a line for each check and a last line that counts them; exit status 0 only if all hold.
  * tests/exports compiles and runs it. */
 #include "spc700.h"

@@ -1,4 +1,5 @@
--- What a call answers at the bytes: refusal 6 where the registers are not seven, and else what the engine's answer, handed back, says.
+-- What a call answers at the bytes: refusal 6 where the registers are not seven, and else what the engine's answer, handed back, says; and
+-- the one number of a call that answers its refusal alone.
 -- Assumes nothing.
 use Prim.Native.Nat.{ℕ}
 use mathlib.Core.Path.{_≡_, refl}
@@ -15,7 +16,8 @@ use Rattle.state.specs.Registers.{registersOf}
 use Rattle.runs.specs.Run.{Progress}
 use Rattle.engine.specs.Entry.{refusalOf, accepted, refused, answered, runOf, runAnswer}
 use Rattle.engine.specs.declared.Ran.{Ran}
-use Rattle.exports.specs.Calls.{packed, called, handedBack, Handed, runCall}
+use Rattle.laws.specs.Filled.{Filled, filled}
+use Rattle.exports.specs.Calls.{packed, numbered, called, handedBack, Handed, runCall}
 
 -- The engine leaves memory and maps as they were wherever it refuses.
 left-alone : (cpu : Processor) (w : World) (o : Outcome World (Progress Processor)) {q : Outcome World Ran}
@@ -43,3 +45,6 @@ module _ (budget : ℕ) (registers : List ℕ) (w : World) where
       go : ((ran .refusal ≡ 0 → ⊥) → left ≡ w) → Dec (ran .refusal ≡ 0) → called r after left ≡ handedBack registers w (outcome ran left)
       go same (yes z) = rw (eq-eqb _ _ z) (rw (eq-eqb _ _ z) at (back .whatever left))
       go same (no n) = rw (ne-eqb _ _ n, same n) (rw (ne-eqb _ _ n) at (back .whatever w))
+
+pub in-number : {o : Filled} {refusal r : ℕ} {after : List ℕ} → filled refusal after ≡ o → r ≡ packed refusal 0 0 → filled r after ≡ numbered o
+in-number e p = rw (p, ← e)

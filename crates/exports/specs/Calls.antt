@@ -17,8 +17,9 @@ use Rattle.laws.specs.Filled.{Filled, filled}
 use Rattle.memory.specs.Contracts.{before, after}
 use Rattle.processor.specs.declared.Processor.{Processor}
 use Rattle.state.specs.Registers.{registersOf, bytesOf}
-use Rattle.spc_file.specs.Calls.{readOf, writeOf}
+use Rattle.spc_file.specs.Calls.{unlessRefused, readOf, writeOf}
 use Rattle.spc_file.specs.declared.FileRead.{FileRead}
+use Rattle.conversion.specs.Calls.{fileFromRecord, recordFromFile}
 use Rattle.engine.specs.Entry.{stepAnswer, runAnswer}
 use Rattle.engine.specs.declared.Ran.{Ran}
 
@@ -70,13 +71,15 @@ abbrev pub CallYields : (List ℕ → World → Called) → Lent → Lent → Le
 CallYields call registers memory reads writes r =
     called r (now (registers .exit)) (after memory reads writes) ≡ call (now (registers .entry)) (before memory reads writes)
 
+-- A call whose one number says the refusal alone.
+abbrev pub numbered : Filled → Filled
+numbered o = filled (packed (o .answer) 0 0) (o .left)
+
 -- A call that fills a lent row of n numbers: 6 exactly if the row has another length, before all others; then the refusal of its work, if
 -- there is one; else `new` in the row. Refused, the row stays as it was.
 abbrev pub intoRow : ℕ → ℕ → List ℕ → List ℕ → Filled
 intoRow n refusal new row =
-    cond (eqb (length row) n)
-    (cond (eqb refusal 0) (filled (packed 0 0 0) new) (filled (packed refusal 0 0) row))
-    (filled (packed 6 0 0) row)
+    cond (eqb (length row) n) (numbered (unlessRefused refusal new row)) (filled (packed 6 0 0) row)
 
 -- A count over both maps, into three numbers: read only, stored only, both.
 abbrev pub countsInto : Counted → List ℕ → Filled
@@ -96,8 +99,14 @@ fileReadCall file = recordInto (readOf file)
 -- leaves.
 abbrev pub fileWriteCall : List ℕ → List ℕ → List ℕ → Filled
 fileWriteCall registers memory file =
-    let o = writeOf (registersOf registers) memory file in
-    cond (eqb (length registers) 7) (filled (packed (o .answer) 0 0) (o .left)) (filled (packed 6 0 0) file)
+    cond (eqb (length registers) 7) (numbered (writeOf (registersOf registers) memory file)) (filled (packed 6 0 0) file)
+
+-- A state record into an SPC file, and back: the refusal of each way is its number.
+abbrev pub fileFromRecordCall : List ℕ → List ℕ → Filled
+fileFromRecordCall state file = numbered (fileFromRecord state file)
+
+abbrev pub recordFromFileCall : List ℕ → List ℕ → Filled
+recordFromFileCall file state = numbered (recordFromFile file state)
 
 -- a text
 abbrev pub textNumber : Written → ℕ

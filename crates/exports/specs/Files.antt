@@ -1,4 +1,4 @@
--- Reading and writing SPC files through the calls, one after the other.
+-- Reading and writing SPC files through the calls, and making them of state records and back, one after the other.
 -- The hypotheses are what the code's types give, that the lent slices hold bytes, and where it is said, that a call was not refused.
 -- Assumes nothing.
 use Prim.Native.Nat.{ℕ}
@@ -15,7 +15,9 @@ use Rattle.state.specs.Registers.{registersOf, bytesOf}
 use Rattle.state.specs.Theorems.{record-to-bytes-and-back, bytes-to-record-and-back}
 use Rattle.spc_file.specs.Calls.{refusalOf, fileRead, readOf, memoryOf, writeOf}
 use Rattle.spc_file.specs.Theorems as spc
-use Rattle.exports.specs.Calls.{packed, fileReadCall, fileWriteCall}
+use Rattle.conversion.specs.Calls.{fileFromRecord, recordFromFile}
+use Rattle.conversion.specs.Theorems as conversion
+use Rattle.exports.specs.Calls.{packed, numbered, fileReadCall, fileWriteCall, fileFromRecordCall, recordFromFileCall}
 
 -- ---- the calls, past the test of the registers' length
 
@@ -78,3 +80,21 @@ write-then-read registers memory file bytes e = go (ℕ-discrete (length registe
           read = λ into seven. rw (read-accepted _ into seven (back .read), bytes-to-record-and-back registers bytes s);
           part = back .part;
         })
+
+-- ---- state records and files
+
+-- An answer of 0 is the refusal 0.
+none-refused : (refusal : ℕ) → packed refusal 0 0 ≡ 0 → refusal ≡ 0
+none-refused refusal e = omega arith
+
+-- A record that went into a file comes back, into whatever record is lent,
+pub record-to-file-and-back : (state file into : List ℕ) → Bytes state → fileFromRecordCall state file .answer ≡ 0 → length into ≡ 65543
+    → recordFromFileCall (fileFromRecordCall state file .left) into ≡ filled 0 state
+record-to-file-and-back state file into bytes e size =
+    ap numbered (conversion.record-to-file-and-back state file into bytes (none-refused (fileFromRecord state file .answer) e) size)
+
+-- and a file that went into a record comes back, into whatever file is lent.
+pub file-to-record-and-back : (file state into : List ℕ) → Bytes file → recordFromFileCall file state .answer ≡ 0 → length into ≡ 66048
+    → fileFromRecordCall (recordFromFileCall file state .left) into ≡ filled 0 file
+file-to-record-and-back file state into bytes e size =
+    ap numbered (conversion.file-to-record-and-back file state into bytes (none-refused (recordFromFile file state .answer) e) size)

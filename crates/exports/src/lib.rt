@@ -1,11 +1,11 @@
-// The library that other programs link: C's view of the engine, the count of marks, the listing and SPC files, which include/spc700.h
-// documents. Every call takes its slices as pointer and length, has no condition, and answers one number.
+// The library that other programs link: C's view of the engine, the count of marks, the listing, SPC files and state records, which
+// include/spc700.h documents. Every call takes its slices as pointer and length, has no condition, and answers one number.
 ghost use mathlib.Core.Path.{_≡_};
 ghost use lib.ListN.{length};
 ghost use Rattle.listing.specs.Instruction.{listedOf};
 ghost use Rattle.laws.specs.Filled.{Fills};
 ghost use Rattle.exports.specs.Calls.{packed, HandsBack, stepCall, runCall, CallYields, TextYields};
-ghost use Rattle.exports.specs.Calls.{countsCall, fileReadCall, fileWriteCall};
+ghost use Rattle.exports.specs.Calls.{countsCall, fileReadCall, fileWriteCall, fileFromRecordCall, recordFromFileCall};
 use engine::Ran;
 
 // The one number that a call answers.
@@ -124,4 +124,22 @@ pub extern "C" fn spc700_file_write(file: &mut [u8], registers: &[u8], memory: &
     }
     let cpu = state::registers(registers);
     packed(spc_file::write(file, cpu, memory), 0, 0)
+}
+
+// A state record into an SPC file, of which every byte is written. Refusals: 6 a record that is not 65,543 bytes, 7 a file that is not
+// 66,048 bytes.
+#[no_mangle]
+pub extern "C" fn spc700_file_from_record(file: &mut [u8], record: &[u8]) -> u64
+    ensures { λ r. ⌜ Fills (fileFromRecordCall (now («record» .entry))) file r ⌝ }
+{
+    packed(conversion::file_from_record(file, record), 0, 0)
+}
+
+// An SPC file that holds nothing else into a state record. Refusals: 6 a record that is not 65,543 bytes, 7 and 8 as above, then 10 an
+// unnamed byte that is not its default.
+#[no_mangle]
+pub extern "C" fn spc700_record_from_file(record: &mut [u8], file: &[u8]) -> u64
+    ensures { λ r. ⌜ Fills (recordFromFileCall (now (file .entry))) «record» r ⌝ }
+{
+    packed(conversion::record_from_file(record, file), 0, 0)
 }

@@ -23,3 +23,9 @@ spc700-file-read-once = record { same = fills }
 
 pub spc700-file-write-once : One exports.spc700_file_write.Reads.Post (λ κ. first)
 spc700-file-write-once = record { same = fills }
+
+pub spc700-file-from-record-once : One exports.spc700_file_from_record.Reads.Post (λ κ. first)
+spc700-file-from-record-once = record { same = fills }
+
+pub spc700-record-from-file-once : One exports.spc700_record_from_file.Reads.Post (λ κ. first)
+spc700-record-from-file-once = record { same = fills }

@@ -9,6 +9,7 @@ pub mod Marks
 pub mod Output
 pub mod State
 pub mod SpcFile
+pub mod Conversion
 pub mod Memory
 pub mod Modes
 pub mod Gather

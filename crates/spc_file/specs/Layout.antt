@@ -1,4 +1,5 @@
--- Where things stand in an SPC file of 66,048 bytes. The bytes that have no name here belong to nobody: nothing reads them or changes them.
+-- Where things stand in an SPC file of 66,048 bytes. The bytes that have no name here are unnamed: reading a file and writing into one do
+-- not look at them and do not change them.
 use Prim.Native.Nat.{ℕ, _/_, _%_}
 use mathlib.Core.List.{List, [], _∷_}
 use lib.ListN.{getD, take, drop}

@@ -1,3 +1,4 @@
 pub mod Layout
 pub mod Calls
+pub mod Refused
 pub mod Theorems

@@ -1,14 +1,14 @@
 -- What holds of SPC files: which are accepted, that a write keeps to its places, and what comes of reading and writing one after the other.
 -- The one hypothesis is that a file holds bytes, which the code's types give.
 -- Assumes nothing.
-use Prim.Native.Nat.{ℕ, _+_, _/_, _%_, _<_, _≤_}
+use Prim.Native.Nat.{ℕ, _+_, _-_, _/_, _%_, _<_, _≤_}
 use mathlib.Core.Path.{_≡_, refl, sym, ap, subst, _∙_}
 use mathlib.Core.List.{List, List-discrete}
-use mathlib.Core.Logic.{_⊎_, inl, inr, if-pos, if-neg}
-use native.Mathlib.Decide.{ℕ-discrete}
+use mathlib.Core.Logic.{_⊎_, inl, inr, ⊎-elim, if-pos, if-neg}
+use native.Mathlib.Decide.{ℕ-discrete, decLe}
 use native.Mathlib.Omega.{arith}
 use lib.ListN.{length, getD, take, drop, length-drop}
-use lib.Seq.{sets, length-sets, length-take-le}
+use lib.Seq.{sets, ext-getD, length-sets, length-take-le}
 use borrow.Author.Tests.{eq-eqb, ne-eqb}
 use Rattle.laws.specs.Bytes.{Bytes}
 use Rattle.laws.specs.Filled.{Filled, filled}
@@ -18,6 +18,7 @@ use Rattle.processor.specs.Record.{wordOf}
 use Rattle.processor.specs.declared.Processor.{Processor}
 use Rattle.spc_file.specs.Layout.{signature, recordIn, recordBytes, memoryIn, laid}
 use Rattle.spc_file.specs.Calls.{refusalOf, fileRead, readOf, memoryOf, writeRefusal, writeOf}
+use Rattle.spc_file.specs.Refused.{not-refused, answers}
 use Rattle.spc_file.specs.declared.FileRead.{FileRead}
 
 -- ---- which files are accepted
@@ -51,6 +52,10 @@ gives-record file z = rw (eq-eqb _ _ z)
 pub gives-part : (file : List ℕ) → refusalOf file ≡ 0 → memoryOf file ≡ memoryIn file
 gives-part file z = rw (eq-eqb _ _ z)
 
+-- The memory of an accepted file is a whole one.
+pub memory-size : {file : List ℕ} → Accepted file → length (memoryIn file) ≡ 65536
+memory-size {file} a = length-take-le 65536 (drop 256 file) (rw length-drop (omega (arith, a .size)))
+
 -- ---- a write
 
 module _ (memory file : List ℕ) where
@@ -78,19 +83,41 @@ module _ (memory file : List ℕ) where
 abbrev pub Stored : ℕ → Type 0
 Stored at = ((37 ≤ at) × (at ≤ 43)) ⊎ ((256 ≤ at) × (at ≤ 65791))
 
+stored-or-not : (at : ℕ) → Dec (Stored at)
+stored-or-not at = go (decLe at 36) (decLe at 43) (decLe at 255) (decLe at 65791)
+  where
+    go : Dec (at ≤ 36) → Dec (at ≤ 43) → Dec (at ≤ 255) → Dec (at ≤ 65791) → Dec (Stored at)
+    go (yes a) b c d = no (⊎-elim (λ p. omega arith) (λ p. omega arith))
+    go (no a) (yes b) c d = yes (inl (omega arith, omega arith))
+    go (no a) (no b) (yes c) d = no (⊎-elim (λ p. omega arith) (λ p. omega arith))
+    go (no a) (no b) (no c) (yes d) = yes (inr (omega arith, omega arith))
+    go (no a) (no b) (no c) (no d) = no (⊎-elim (λ p. omega arith) (λ p. omega arith))
+
 module _ (cpu : Processor) (memory file : List ℕ) where
-  laid-elsewhere : length memory ≡ 65536 → (at : ℕ) → (Stored at → ⊥) → getD (laid cpu memory file) at 0 ≡ getD file at 0
+  -- Record and memory, laid into a file, leave every other byte as it was,
+  pub laid-elsewhere : length memory ≡ 65536 → (at : ℕ) → (Stored at → ⊥) → getD (laid cpu memory file) at 0 ≡ getD file at 0
   unfolding recordBytes
   laid-elsewhere size at other =
       other-place memory (sets file 37 (recordBytes cpu)) 256 at (λ i h e. other (inr (omega arith, omega arith)))
       ∙ other-place (recordBytes cpu) file 37 at (λ i h e. other (inl (omega arith, omega arith)))
 
+  -- and the file as long as it was.
+  pub laid-length : length (laid cpu memory file) ≡ length file
+  laid-length = length-sets (sets file 37 (recordBytes cpu)) 256 memory ∙ length-sets file 37 (recordBytes cpu)
+
+  laid-record : length file ≡ 66048 → (i : ℕ) → i < 7 → getD (laid cpu memory file) (37 + i) 0 ≡ getD (recordBytes cpu) i 0
+  unfolding recordBytes
+  laid-record whole i h =
+      other-place memory (sets file 37 (recordBytes cpu)) 256 (37 + i) (λ j k e. omega arith)
+      ∙ stored-place (recordBytes cpu) file 37 i (omega arith) h
+
+  laid-memory : length file ≡ 66048 → length memory ≡ 65536 → (i : ℕ) → i < 65536
+      → getD (laid cpu memory file) (256 + i) 0 ≡ getD memory i 0
+  laid-memory whole size i h = stored-place memory (sets file 37 (recordBytes cpu)) 256 i (rw length-sets (omega arith)) (omega arith)
+
   -- Accepted, it leaves record and memory in their places.
   pub lays : writeRefusal memory file ≡ 0 → writeOf cpu memory file ≡ filled 0 (laid cpu memory file)
-  lays z = rw (eq-eqb _ _ z)
-
-  laid-length : length (laid cpu memory file) ≡ length file
-  laid-length = length-sets (sets file 37 (recordBytes cpu)) 256 memory ∙ length-sets file 37 (recordBytes cpu)
+  lays z = not-refused (writeRefusal memory file) (laid cpu memory file) file z
 
   -- what holds of the file as it was, and with record and memory in it where they are accepted, holds of the file that is left
   of-what-is-left : (P : List ℕ → Type 0) → P file → (writeRefusal memory file ≡ 0 → P (laid cpu memory file))
@@ -109,6 +136,34 @@ module _ (cpu : Processor) (memory file : List ℕ) where
   pub same-length : length (writeOf cpu memory file .left) ≡ length file
   same-length = of-what-is-left (λ l. length l ≡ length file) refl (λ z. laid-length)
 
+-- What is laid into two files that agree at all other places leaves the same file.
+pub laid-alike : (cpu : Processor) (memory first second : List ℕ) → length memory ≡ 65536
+    → length first ≡ 66048 → length second ≡ 66048
+    → ((at : ℕ) → at < 66048 → (Stored at → ⊥) → getD first at 0 ≡ getD second at 0)
+    → laid cpu memory first ≡ laid cpu memory second
+laid-alike cpu memory first second size f s alike =
+    ext-getD 0 (laid cpu memory first) (laid cpu memory second)
+    (laid-length cpu memory first ∙ f ∙ sym s ∙ sym (laid-length cpu memory second))
+    (λ at h. go at (omega (arith, laid-length cpu memory first)) (stored-or-not at))
+  where
+    Same : ℕ → Type 0
+    Same at = getD (laid cpu memory first) at 0 ≡ getD (laid cpu memory second) at 0
+
+    in-record : (i : ℕ) → i < 7 → Same (37 + i)
+    in-record i h = laid-record cpu memory first f i h ∙ sym (laid-record cpu memory second s i h)
+
+    in-memory : (i : ℕ) → i < 65536 → Same (256 + i)
+    in-memory i h = laid-memory cpu memory first f size i h ∙ sym (laid-memory cpu memory second s size i h)
+
+    elsewhere : (at : ℕ) → at < 66048 → (Stored at → ⊥) → Same at
+    elsewhere at h other =
+        laid-elsewhere cpu memory first size at other ∙ alike at h other ∙ sym (laid-elsewhere cpu memory second size at other)
+
+    go : (at : ℕ) → at < 66048 → Dec (Stored at) → Same at
+    go at h (yes (inl p)) = let e : 37 + (at - 37) ≡ at = omega arith in rw e at (in-record (at - 37) (omega arith))
+    go at h (yes (inr p)) = let e : 256 + (at - 256) ≡ at = omega arith in rw e at (in-memory (at - 256) (omega arith))
+    go at h (no n) = elsewhere at h n
+
 -- ---- both ways round
 
 module _ (file : List ℕ) (bytes : Bytes file) where
@@ -119,7 +174,8 @@ module _ (file : List ℕ) (bytes : Bytes file) where
       let high : wordOf (getD file 37 0) (getD file 38 0) / 256 ≡ getD file 38 0 = omega (arith, bytes 37) in
       rw (low, high, byte-to-flags-and-back (getD file 42 0) (bytes 42)) (standing-stays 7 37 file)
 
-  same-file : Accepted file → laid (recordIn file) (memoryIn file) file ≡ file
+  -- A file's own record and memory, laid into it, change nothing.
+  pub same-file : Accepted file → laid (recordIn file) (memoryIn file) file ≡ file
   same-file a = rw same-record (stored-again 65536 file 256 (omega (arith, a .size)))
 
   -- Reading a file and then writing into it what was read changes nothing; a file that is refused is refused both times, with one number.
@@ -128,10 +184,9 @@ module _ (file : List ℕ) (bytes : Bytes file) where
     where
       go : Dec (refusalOf file ≡ 0) → writeOf (readOf file .cpu) (memoryOf file) file ≡ filled (refusalOf file) file
       go (yes z) =
-          let part = length-take-le 65536 (drop 256 file) (rw length-drop (omega (arith, accepted z .size))) in
           ap (λ (f : FileRead). writeOf (f .cpu) (memoryOf file) file) (gives-record file z)
           ∙ ap (λ (m : List ℕ). writeOf (recordIn file) m file) (gives-part file z)
-          ∙ lays (recordIn file) (memoryIn file) file (writes (memoryIn file) file (accepted z) part)
+          ∙ lays (recordIn file) (memoryIn file) file (writes (memoryIn file) file (accepted z) (memory-size (accepted z)))
           ∙ ap (λ (l : List ℕ). filled 0 l) (same-file (accepted z))
           ∙ ap (λ (n : ℕ). filled n file) (sym z)
       go (no n) = refused-file (memoryOf file) file (readOf file .cpu) n
@@ -143,7 +198,8 @@ pub record GivesBack (cpu : Processor) (memory file : List ℕ) : Type 0 where
 
 module _ (cpu : Processor) (memory file : List ℕ) where
   module _ (a : Accepted file) (size : length memory ≡ 65536) where
-    still-accepted : Accepted (laid cpu memory file)
+    -- Laid into an accepted file, they leave one that is accepted, too,
+    pub still-accepted : Accepted (laid cpu memory file)
     still-accepted = record {
       size = laid-length cpu memory file ∙ a .size;
       begins =
@@ -152,29 +208,28 @@ module _ (cpu : Processor) (memory file : List ℕ) where
           ∙ a .begins;
     }
 
-    laid-record : (i : ℕ) → i < 7 → getD (laid cpu memory file) (37 + i) 0 ≡ getD (recordBytes cpu) i 0
-    unfolding recordBytes
-    laid-record i h =
-        other-place memory (sets file 37 (recordBytes cpu)) 256 (37 + i) (λ j k e. omega arith)
-        ∙ stored-place (recordBytes cpu) file 37 i (omega (arith, a .size)) h
+    at-37 : (i : ℕ) → i < 7 → getD (laid cpu memory file) (37 + i) 0 ≡ getD (recordBytes cpu) i 0
+    at-37 = laid-record cpu memory file (a .size)
 
-    same-registers : recordIn (laid cpu memory file) ≡ cpu
+    -- in which the record
+    pub same-registers : recordIn (laid cpu memory file) ≡ cpu
     unfolding recordIn recordBytes
     same-registers =
         let word : wordOf (cpu .pc % 256) (cpu .pc / 256) ≡ cpu .pc = omega arith in
         rw (
-          laid-record 0 (omega arith),
-          laid-record 1 (omega arith),
-          laid-record 2 (omega arith),
-          laid-record 3 (omega arith),
-          laid-record 4 (omega arith),
-          laid-record 5 (omega arith),
-          laid-record 6 (omega arith),
+          at-37 0 (omega arith),
+          at-37 1 (omega arith),
+          at-37 2 (omega arith),
+          at-37 3 (omega arith),
+          at-37 4 (omega arith),
+          at-37 5 (omega arith),
+          at-37 6 (omega arith),
           word,
           flags-to-byte-and-back (cpu .psw),
         )
 
-    same-memory : memoryIn (laid cpu memory file) ≡ memory
+    -- and the memory stand.
+    pub same-memory : memoryIn (laid cpu memory file) ≡ memory
     same-memory =
         let room : 256 + length memory ≤ length (sets file 37 (recordBytes cpu)) = rw length-sets (omega (arith, a .size, size)) in
         rw size at (stored-part memory (sets file 37 (recordBytes cpu)) 256 room)
@@ -187,10 +242,7 @@ module _ (cpu : Processor) (memory file : List ℕ) where
 
   -- Writing and then reading gives back what was written.
   pub write-then-read : writeOf cpu memory file .answer ≡ 0 → GivesBack cpu memory (writeOf cpu memory file .left)
-  write-then-read e = go (ℕ-discrete (writeRefusal memory file) 0)
-    where
-      go : Dec (writeRefusal memory file ≡ 0) → GivesBack cpu memory (writeOf cpu memory file .left)
-      go (yes z) =
-          let w = written memory file z in
-          subst (λ (o : Filled). GivesBack cpu memory (o .left)) (sym (lays cpu memory file z)) (laid-gives-back (w .0) (w .1))
-      go (no n) = absurd (n (rw (ne-eqb _ _ n) at e))
+  write-then-read e =
+      let z = sym (answers (writeRefusal memory file) (laid cpu memory file) file) ∙ e in
+      let w = written memory file z in
+      subst (λ (o : Filled). GivesBack cpu memory (o .left)) (sym (lays cpu memory file z)) (laid-gives-back (w .0) (w .1))

@@ -8,6 +8,9 @@ ghost use Rattle.spc_file.specs.Calls.{refusalOf, readOf, memoryOf, writ
 use processor::Processor;
 use psw::ProgramStatusWord;
 
+// The first 33 bytes of every file.
+pub const SIGNATURE: [u8; 33] = *b"SNES-SPC700 Sound File Data v0.30";
+
 // What reading gives: refusal 0 and the file's record, or the refusal's number and a record of zeros.
 pub struct FileRead {
     pub refusal: u8,
@@ -21,7 +24,8 @@ fn refusal_of(file: &[u8]) -> u8
     if file.len() != 66048 {
         return 7;
     }
-    if check::same(&file[..33], b"SNES-SPC700 Sound File Data v0.30") {
+    let signature = SIGNATURE;
+    if check::same(&file[..33], &signature) {
         return 0;
     }
     8

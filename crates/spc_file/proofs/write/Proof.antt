@@ -2,10 +2,10 @@
 -- Assumes nothing.
 use Prim.Native.Nat.{ℕ, _+_, _≤_}
 use mathlib.Core.Path.{_≡_, sym, _∙_}
-use mathlib.Core.List.{List, _++_, append-nil, append-assoc}
+use mathlib.Core.List.{List, _++_, append-assoc}
 use native.Mathlib.Omega.{arith}
 use lib.ListN.{length, take, drop, length-drop}
-use lib.Seq.{sets, length-sets, sets-eq, length-take-le, take-length, drop-length}
+use lib.Seq.{sets, length-sets, sets-eq, length-take-le}
 use borrow.Author.Needs.{needs}
 use borrow.Author.Tests.{eq-eqb, ne-eqb}
 use borrow.Rule.Slice.PartMut.{putMid, post-is}
@@ -14,12 +14,9 @@ use Rattle.processor.specs.declared.Processor.{Processor}
 use Rattle.spc_file.specs.Layout.{recordBytes}
 use Rattle.spc_file.specs.Calls.{writeRefusal, writeOf}
 use Rattle.spc_file.specs.Theorems.{written}
+use Rattle.spc_file.proofs.Laws.{whole-part}
 use Rattle.spc_file.proofs.write.Statement.{statement}
 use Rattle.spc_file.proofs.write.Tie as tie
-
--- What is copied into a part of its own length is all that the part then holds.
-whole-part : (from part : List ℕ) → length from ≡ length part → take (length from) from ++ drop (length from) part ≡ from
-whole-part from part e = rw (take-length from, e, drop-length part, append-nil from)
 
 module _ (cpu : Processor) (memory file : List ℕ) {refusal : ℕ} (is : refusal ≡ writeRefusal memory file) where
   refused : (refusal ≡ 0 → ⊥) → filled refusal file ≡ writeOf cpu memory file
