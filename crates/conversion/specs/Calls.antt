@@ -16,7 +16,7 @@ use Rattle.conversion.specs.Unnamed.{withDefaults, allDefault}
 unfoldable pub toFileRefusal : List ℕ → List ℕ → ℕ
 toFileRefusal state file = cond (eqb (length state) 65543) (cond (eqb (length file) 66048) 0 7) 6
 
--- The file in which nothing is written yet: the signature, the default in every unnamed byte, and zeros.
+-- A file of 66,048 bytes in which nothing is written yet: the signature, the default in every unnamed byte, and zeros.
 unfoldable pub newFile : List ℕ
 newFile = withDefaults (signature ++ replicate 66015 0)
 

@@ -13,7 +13,7 @@ use lib.ListN.{length, getD, set, take, length-take}
 use lib.Seq.{ext-getD, getD-take}
 use lib.Dec.{leb}
 use borrow.Author.Tests.{le-leb, lt-leb}
-use Rattle.conversion.specs.Unnamed.{Place, named, unnamed, placeAt, Unnamed}
+use Rattle.conversion.specs.Unnamed.{Place, named, unnamed, firstFour, placeAt, Unnamed}
 use Rattle.conversion.specs.Unnamed.{orDefault, defaultsFrom, withDefaults, allDefault, EachDefault}
 
 -- ---- unnamed bytes
@@ -26,7 +26,7 @@ picked P at last a b = elim (decLe at last) [ yes h ↦ rw (le-leb _ _ h) (a h) 
 -- What holds in each of the six stretches holds at every offset.
 pub each-stretch : (P : Place → Type 0) (at : ℕ)
     → (at ≤ 32 → P named)
-    → (33 ≤ at → at ≤ 36 → P (unnamed (getD (26 ∷ 26 ∷ 27 ∷ 30 ∷ []) (at - 33) 0)))
+    → (33 ≤ at → at ≤ 36 → P (unnamed (getD firstFour (at - 33) 0)))
     → (37 ≤ at → at ≤ 43 → P named)
     → (44 ≤ at → at ≤ 255 → P (unnamed 0))
     → (256 ≤ at → at ≤ 65791 → P named)

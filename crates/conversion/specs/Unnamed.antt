@@ -14,12 +14,16 @@ pub data Place : Type 0 where
   named : Place
   unnamed : (default : ℕ) → Place
 
--- From a file's beginning to its end: the signature, up to 32; 33 to 36 are unnamed, with the defaults 26, 26, 27, 30; the record, up to
--- 43; unnamed up to 255, with zero; the memory, up to 65,791; unnamed to the end, with zero.
+-- the defaults of 33 to 36
+abbrev pub firstFour : List ℕ
+firstFour = 26 ∷ 26 ∷ 27 ∷ 30 ∷ []
+
+-- From a file's beginning to its end: the signature, up to 32; the first four unnamed bytes, up to 36; the record, up to 43; unnamed bytes
+-- up to 255, with zero as their default; the memory, up to 65,791; unnamed bytes to the end, with zero.
 unfoldable pub placeAt : ℕ → Place
 placeAt at =
     cond (leb at 32) named
-    (cond (leb at 36) (unnamed (getD (26 ∷ 26 ∷ 27 ∷ 30 ∷ []) (at - 33) 0))
+    (cond (leb at 36) (unnamed (getD firstFour (at - 33) 0))
     (cond (leb at 43) named
     (cond (leb at 255) (unnamed 0)
     (cond (leb at 65791) named (unnamed 0)))))

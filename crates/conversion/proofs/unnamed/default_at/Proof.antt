@@ -2,20 +2,19 @@
 -- Assumes nothing.
 use Prim.Native.Nat.{ℕ, _+_, _-_, _<_}
 use mathlib.Core.Path.{_≡_, refl}
-use mathlib.Core.List.{[], _∷_}
 use native.Mathlib.Omega.{arith}
 use lib.ListN.{getD}
 use borrow.Author.Needs.{needs}
-use Rattle.conversion.specs.Unnamed.{unnamed, placeAt, Unnamed}
+use Rattle.conversion.specs.Unnamed.{unnamed, firstFour, placeAt, Unnamed}
 use Rattle.conversion.specs.Defaults.{each-stretch, not-both}
 use Rattle.conversion.proofs.unnamed.default_at.Statement.{statement}
 use Rattle.conversion.proofs.unnamed.default_at.Tie as tie
 
-first-four : (i : ℕ) → i < 4 → {at : ℕ} → at ≡ 33 + i → placeAt at ≡ unnamed (getD (26 ∷ 26 ∷ 27 ∷ 30 ∷ []) i 0)
+first-four : (i : ℕ) → i < 4 → {at : ℕ} → at ≡ 33 + i → placeAt at ≡ unnamed (getD firstFour i 0)
 first-four i h {at} e =
     let there : at - 33 ≡ i = omega arith in
     rw (← there)
-    (each-stretch (λ p. p ≡ unnamed (getD (26 ∷ 26 ∷ 27 ∷ 30 ∷ []) (at - 33) 0)) at
+    (each-stretch (λ p. p ≡ unnamed (getD firstFour (at - 33) 0)) at
     (λ a. absurd (omega arith))
     (λ a b. refl)
     (λ a b. absurd (omega arith))
