@@ -1,6 +1,6 @@
 -- The calls that other programs make: what each answers, as one number, and what it leaves in the bytes it was lent.
 use Prim.Native.Nat.{ℕ, _+_, _*_, _^_}
-use mathlib.Core.Bool.{cond}
+use mathlib.Core.Bool.{cond, not}
 use mathlib.Core.List.{List, [], _∷_}
 use mathlib.Core.Path.{_≡_}
 use denote.Ref.{now}
@@ -20,10 +20,12 @@ use Rattle.state.specs.Registers.{registersOf, bytesOf}
 use Rattle.spc_file.specs.Calls.{unlessRefused, readOf, writeOf}
 use Rattle.spc_file.specs.declared.FileRead.{FileRead}
 use Rattle.conversion.specs.Calls.{fileFromRecord, recordFromFile}
+use Rattle.differences.specs.Calls.{differencesOf}
+use Rattle.differences.specs.declared.Differences.{Differences}
 use Rattle.engine.specs.Entry.{stepAnswer, runAnswer}
 use Rattle.engine.specs.declared.Ran.{Ran}
 
--- The refusal in bits 40 and up, the stop in bits 32 to 39, the number (steps, length) in the low 32.
+-- The refusal in bits 40 and up, the stop in bits 32 to 39, the number (steps, length, stretches) in the low 32.
 abbrev pub packed : ℕ → ℕ → ℕ → ℕ
 packed refusal stop number = refusal * 2 ^ 40 + stop * 2 ^ 32 + number
 
@@ -87,6 +89,15 @@ countsInto c = intoRow 3 (c .refusal) (c .«read_only» ∷ c .«stored_only» �
 
 abbrev pub countsCall : List ℕ → List ℕ → List ℕ → Filled
 countsCall reads writes = countsInto (countsOf reads writes)
+
+-- A comparison of two memories, with a map where the sign is not 0: the stop is 1 exactly if a stretch touches a mark, the number is how
+-- many stretches there are.
+abbrev pub differencesNumber : Differences → ℕ
+differencesNumber d = packed (d .refusal) (cond (d .touched) 1 0) (d .stretches)
+
+abbrev pub differencesCall : List ℕ → List ℕ → ℕ → List ℕ → List ℕ → Filled
+differencesCall first second has-map map row =
+    let o = differencesOf first second (not (eqb has-map 0)) map row in filled (differencesNumber (o .result)) (o .left)
 
 -- The record of an SPC file, into seven bytes, in the order that all calls have.
 abbrev pub recordInto : FileRead → List ℕ → Filled

@@ -1,11 +1,13 @@
-// The library that other programs link: C's view of the engine, the count of marks, the listing, SPC files and state records, which
-// include/spc700.h documents. Every call takes its slices as pointer and length, has no condition, and answers one number.
+// The library that other programs link: C's view of the engine, the count of marks, the differences between two memories, the listing,
+// SPC files and state records, which include/spc700.h documents. Every call takes its slices as pointer and length, has no condition, and
+// answers one number.
 ghost use mathlib.Core.Path.{_≡_};
 ghost use lib.ListN.{length};
 ghost use Rattle.listing.specs.Instruction.{listedOf};
 ghost use Rattle.laws.specs.Filled.{Fills};
 ghost use Rattle.exports.specs.Calls.{packed, HandsBack, stepCall, runCall, CallYields, TextYields};
-ghost use Rattle.exports.specs.Calls.{countsCall, fileReadCall, fileWriteCall, fileFromRecordCall, recordFromFileCall};
+ghost use Rattle.exports.specs.Calls.{countsCall, differencesCall};
+ghost use Rattle.exports.specs.Calls.{fileReadCall, fileWriteCall, fileFromRecordCall, recordFromFileCall};
 use engine::Ran;
 
 // The one number that a call answers.
@@ -84,6 +86,23 @@ pub extern "C" fn spc700_counts(reads: &[u8], writes: &[u8], counts: &mut [u32])
     counts[1] = counted.stored_only;
     counts[2] = counted.both;
     packed(0, 0, 0)
+}
+
+// First and last address of every stretch at which two memories differ, two numbers each, into the row. The stop is 1 where there is a map,
+// that is where `has_map` is not 0, and a stretch touches one of its marks. Refusals: 1 a memory that is not 65,536 bytes, 2 a map, where
+// there is one, that is not 8,192 bytes, 3 a row that is too short.
+#[no_mangle]
+pub extern "C" fn spc700_differences(
+    first: &[u8],
+    second: &[u8],
+    has_map: u8,
+    map: &[u8],
+    row: &mut [u16],
+) -> u64
+    ensures { λ r. ⌜ Fills (differencesCall (now (first .entry)) (now (second .entry)) «has_map» (now (map .entry))) row r ⌝ }
+{
+    let found = differences::between(first, second, has_map != 0, map, row);
+    packed(found.refusal, found.touched as u8, found.stretches)
 }
 
 // One instruction's text from its bytes. Refusals: 4 fewer bytes than the instruction has, 3 a buffer that is too short.

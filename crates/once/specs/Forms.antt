@@ -10,6 +10,8 @@ use Rattle.text.specs.declared.Written.{Written}
 use Rattle.text.specs.Given.{Wanted, Given}
 use Rattle.text.proofs.Laws.{given-once}
 use Rattle.laws.specs.Filled.{Filled, filled}
+use Rattle.differences.specs.Calls.{answered}
+use Rattle.differences.specs.declared.Differences.{Differences}
 use Rattle.exports.specs.Calls.{Called, called}
 use Rattle.once.specs.Law.{nothing}
 
@@ -60,3 +62,7 @@ calls p q =
 -- a call that answers a number and writes to one slice
 pub fills : {x y : ℕ} {a b : List ℕ} {c : Filled} → filled x a ≡ c → filled y b ≡ c → (x ≡ y) × (a ≡ b)
 fills p q = let same = p ∙ sym q in (ap (λ c. c .answer) same, ap (λ c. c .left) same)
+
+-- a comparison: what it answers, and the row
+pub finds : {x y : Differences} {a b : List ℕ} {o : Outcome (List ℕ) Differences} → answered x a ≡ o → answered y b ≡ o → (x ≡ y) × (a ≡ b)
+finds p q = let same = p ∙ sym q in (ap (λ o. o .result) same, ap (λ o. o .left) same)

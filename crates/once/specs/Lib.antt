@@ -15,6 +15,7 @@ pub mod Modes
 pub mod Gather
 pub mod Effects
 pub mod Engine
+pub mod Differences
 pub mod OpcodeData
 pub mod Listing
 pub mod Exports

@@ -1,0 +1,50 @@
+-- Which comparisons are refused: what is known of one that is not.
+-- Assumes nothing.
+use Prim.Native.Nat.{ℕ}
+use mathlib.Core.Bool.{Bool, true}
+use mathlib.Core.Path.{_≡_}
+use mathlib.Core.List.{List}
+use native.Mathlib.Decide.{ℕ-discrete}
+use native.Mathlib.Omega.{arith}
+use lib.ListN.{length}
+use borrow.Author.Tests.{eq-eqb, ne-eqb}
+use Rattle.differences.specs.Calls.{lengthsRefusal, refusalOf, differencesOf}
+use Rattle.differences.specs.Walk.{Pair, Usable}
+
+module _ (first second : List ℕ) (has-map : Bool) (map : List ℕ) where
+  pub paired : lengthsRefusal first second has-map map ≡ 0 → Pair first second
+  unfolding lengthsRefusal
+  paired e = go (ℕ-discrete (length first) 65536) (ℕ-discrete (length second) 65536)
+    where
+      go : Dec (length first ≡ 65536) → Dec (length second ≡ 65536) → Pair first second
+      go (yes f) (yes s) = record { first-size = f; second-size = s }
+      go (yes f) (no s) = let one : _≡_ {A = ℕ} 1 0 = rw (eq-eqb _ _ f, ne-eqb _ _ s) at e in absurd (omega arith)
+      go (no f) s = let one : _≡_ {A = ℕ} 1 0 = rw (ne-eqb _ _ f) at e in absurd (omega arith)
+
+  pub usable : lengthsRefusal first second has-map map ≡ 0 → Usable has-map map
+  unfolding lengthsRefusal
+  usable e = record { size = λ h. go h (ℕ-discrete (length map) 8192) }
+    where
+      go : has-map ≡ true → Dec (length map ≡ 8192) → length map ≡ 8192
+      go h (yes m) = m
+      go h (no m) =
+          let p = paired e in
+          let two : _≡_ {A = ℕ} 2 0 = rw (eq-eqb _ _ (p .first-size), eq-eqb _ _ (p .second-size), h, ne-eqb _ _ m) at e in
+          absurd (omega arith)
+
+  module _ (row : List ℕ) where
+    -- An answer of 0 comes from no refusal at all, and so the lengths are right.
+    pub nothing-refused : differencesOf first second has-map map row .result .refusal ≡ 0 → refusalOf first second has-map map row ≡ 0
+    nothing-refused e = go (ℕ-discrete (refusalOf first second has-map map row) 0)
+      where
+        go : Dec (refusalOf first second has-map map row ≡ 0) → refusalOf first second has-map map row ≡ 0
+        go (yes z) = z
+        go (no n) = rw (ne-eqb _ _ n) at e
+
+    pub lengths-right : refusalOf first second has-map map row ≡ 0 → lengthsRefusal first second has-map map ≡ 0
+    unfolding refusalOf
+    lengths-right e = go (ℕ-discrete (lengthsRefusal first second has-map map) 0)
+      where
+        go : Dec (lengthsRefusal first second has-map map ≡ 0) → lengthsRefusal first second has-map map ≡ 0
+        go (yes z) = z
+        go (no n) = rw (ne-eqb _ _ n) at e
