@@ -1,4 +1,5 @@
-/* The SPC700 for C and C++: one step, a run, a count of marks, one instruction's text, SPC files and state records.
+/* The SPC700 for C and C++: one step, a run, a count of marks, what differs between two memories, one instruction's text, SPC files and
+ * state records.
  *
  * The functions are those of the proved crate `exports`. `rt staticlib exports` writes them to target/staticlib/libexports.a, for
  * programs on x86-64 Linux:
@@ -8,7 +9,7 @@
  * Of other libraries they use C's memcpy alone. They allocate nothing and keep nothing between two calls.
  *
  * What a call is lent. Every region is two arguments: a pointer to its first element, then how many elements it has. They are bytes; only
- * the counts of spc700_counts are 32-bit numbers.
+ * the counts of spc700_counts are 32-bit numbers, and the row of spc700_differences has 16-bit numbers.
  *   - The pointer is never NULL, also where the length is 0, it is aligned as its type asks, and as many elements as the length says
  *     belong to the caller.
  *   - No two regions of one call overlap.
@@ -16,14 +17,14 @@
  * These three are the caller's to keep: the proofs rest on them. Lengths need no care: a wrong one is refused.
  *
  * What a call answers: one number, which spc700_refusal, spc700_stop and spc700_number below take apart.
- *   bits 0 to 31    the number: steps, or bytes of text; else 0
- *   bits 32 to 39   the stop of a step or a run; else 0
+ *   bits 0 to 31    the number: steps, bytes of text, or stretches; else 0
+ *   bits 32 to 39   the stop of a step or a run, or whether a mark is touched; else 0
  *   bits 40 to 47   the refusal: 0, or why the call was refused
  *   bits 48 to 63   0
  * A refused call changes no byte that it was lent, and its stop and number are 0.
  *
- * In Rust, declare the functions in an `extern "C"` block: uint8_t * is *mut u8, const uint8_t * is *const u8, uint32_t * is *mut u32,
- * size_t is usize.
+ * In Rust, declare the functions in an `extern "C"` block: uint8_t * is *mut u8, const uint8_t * is *const u8, uint16_t * is *mut u16,
+ * uint32_t * is *mut u32, size_t is usize.
  */
 #ifndef SPC700_H
 #define SPC700_H
@@ -35,13 +36,15 @@
 extern "C" {
 #endif
 
-/* How many bytes registers, memory, each map, an SPC file and a state record have, and how many numbers a count of marks gives. */
+/* How many bytes registers, memory, each map, an SPC file and a state record have, how many numbers a count of marks gives, and how many
+ * are room enough for the differences between any two memories. */
 #define SPC700_REGISTERS 7
 #define SPC700_MEMORY 65536
 #define SPC700_MAP 8192
 #define SPC700_FILE 66048
 #define SPC700_RECORD 65543
 #define SPC700_COUNTS 3
+#define SPC700_DIFFERENCES 65536
 
 /* Where in an SPC file the memory begins. */
 #define SPC700_FILE_MEMORY 256
@@ -52,7 +55,7 @@ extern "C" {
 /* Refusals. Where a call could be refused for several reasons, the one that stands first in its own list of refusals below is answered. */
 #define SPC700_WRONG_MEMORY 1    /* memory is not 65,536 bytes */
 #define SPC700_WRONG_MAP 2       /* a map is not 8,192 bytes */
-#define SPC700_NO_ROOM 3         /* the text is longer than its buffer */
+#define SPC700_NO_ROOM 3         /* the text is longer than its buffer, or the stretches are more than the row has room for */
 #define SPC700_CUT 4             /* fewer bytes than the instruction has */
 #define SPC700_WRONG_REGISTERS 6 /* the registers are not 7 bytes */
 #define SPC700_WRONG_COUNTS 6    /* the row for a count is not 3 numbers */
@@ -109,6 +112,33 @@ uint64_t spc700_counts(
     const uint8_t *reads, size_t reads_length,
     const uint8_t *writes, size_t writes_length,
     uint32_t *counts, size_t counts_length);
+
+/* Compares two memories address by address, and writes first and last address of every stretch at which they differ, in ascending order.
+ * Each stretch is as long as possible: at least one address at which they are equal stands between two of them.
+ *
+ * first, second   65,536 bytes each, which stay as they are.
+ * has_map         0: there is no map. Any other number: there is one.
+ * map             a map, as spc700_step keeps them. Where has_map is 0 it is not looked at, and its length may be any; the pointer is not
+ *                 NULL then, either.
+ * row             16-bit numbers: first and last address of the first stretch, then those of the second, and so on. Its length counts
+ *                 numbers. Those behind the last stretch stay as they are. With 65,536 numbers (SPC700_DIFFERENCES) it is never too short:
+ *                 there are at most 32,768 stretches.
+ *
+ * Answers how many stretches there are as the number, 0 where the memories are equal. The stop is 1 where there is a map and an address of
+ * some stretch is marked in it, else 0.
+ *
+ * What a stop of 0 tells: if the map is the one that a run on `first` left in `reads`, all maps having been zeros before it, then a run on
+ * `second` with the same registers and budget gives the same registers, steps, stop and maps, and equal bytes at every address that is
+ * marked in `writes`; every other address keeps its own memory's byte. Compare the memories as they were before the runs.
+ *
+ * A refused call has a stop of 0, too: look at the refusal first.
+ * Refusals: 1, 2, 3. */
+uint64_t spc700_differences(
+    const uint8_t *first, size_t first_length,
+    const uint8_t *second, size_t second_length,
+    uint8_t has_map,
+    const uint8_t *map, size_t map_length,
+    uint16_t *row, size_t row_length);
 
 /* Writes the text of one instruction, as `MOV A, #$7F`, into a buffer; no newline and no zero byte follow it.
  *

@@ -1,25 +1,32 @@
-/* The library's four calls on SPC files, for a script that makes the files: tests/files. Standard input is cases one after the other, each
- * a letter, which names the call, and the regions that the call is lent, in its own order. A region is two numbers of 32 bits, low byte
- * first, the length that the call is told and how many bytes follow, and these bytes. For each case standard output gets the call's answer,
- * 8 bytes, low first, and then the bytes of the regions as the call left them, also those behind the length that it was told. */
+/* Calls of the library, for scripts that make the cases (tools/library.py). Standard input is cases one after the other, each a letter,
+ * which names the call, and the regions that the call is lent, in its own order. A region is two numbers of 32 bits, low byte first, the
+ * length that the call is told and how many bytes follow, and these bytes; an argument that is a number stands in its place as a region,
+ * too. For each case standard output gets the call's answer, 8 bytes, low first, and then the bytes of the regions as the call left them,
+ * also those behind the length that it was told. */
 #include "spc700.h"
 
 /* Declared, not included: a compiler for x86-64 may come without the headers of a C library for it. */
 long read(int from, void *to, size_t length);
 long write(int to, const void *from, size_t length);
 
-/* room for a file with tags behind it */
-#define ROOM (1 << 17)
+/* room for a file with tags behind it, and for the longest row and some numbers behind it */
+#define ROOM (1 << 18)
 
 struct region {
     uint32_t told, length;
-    uint8_t bytes[ROOM];
+    union {
+        uint8_t bytes[ROOM];
+        uint16_t numbers[ROOM / 2];
+        uint32_t number;
+    } as;
 };
 
-static struct region lent[3];
+static struct region lent[5];
 
-/* a region as two arguments */
-#define LENT(i) lent[i].bytes, lent[i].told
+/* a region as two arguments, and as the number that it is */
+#define LENT(i) lent[i].as.bytes, lent[i].told
+#define ROW(i) lent[i].as.numbers, lent[i].told
+#define NUMBER(i) lent[i].as.number
 
 /* 0 where the input ends first */
 static int get(void *to, size_t length)
@@ -46,10 +53,10 @@ static int put(const void *from, size_t length)
 
 static int get_region(struct region *r)
 {
-    return get(&r->told, 4) && get(&r->length, 4) && r->told <= r->length && r->length <= ROOM && get(r->bytes, r->length);
+    return get(&r->told, 4) && get(&r->length, 4) && r->told <= r->length && r->length <= ROOM && get(r->as.bytes, r->length);
 }
 
-static int put_region(const struct region *r) { return put(r->bytes, r->length); }
+static int put_region(const struct region *r) { return put(r->as.bytes, r->length); }
 
 /* how many regions a call is lent; 0 for a letter that names none */
 static int regions(char kind)
@@ -61,6 +68,9 @@ static int regions(char kind)
         return 2;
     case 'w':
         return 3;
+    case 'd':
+    case 'n':
+        return 5;
     default:
         return 0;
     }
@@ -75,8 +85,12 @@ static uint64_t call(char kind)
         return spc700_file_write(LENT(0), LENT(1), LENT(2));
     case 'f':
         return spc700_file_from_record(LENT(0), LENT(1));
-    default:
+    case 's':
         return spc700_record_from_file(LENT(0), LENT(1));
+    case 'd':
+        return spc700_differences(LENT(0), LENT(1), (uint8_t)NUMBER(2), LENT(3), ROW(4));
+    default:
+        return spc700_run(LENT(0), NUMBER(1), LENT(2), LENT(3), LENT(4));
     }
 }
 
