@@ -1,14 +1,15 @@
--- Which comparisons are refused: what is known of one that is not.
+-- Which comparisons are refused: what is known of one that is not, and a row that always suffices.
 -- Assumes nothing.
-use Prim.Native.Nat.{ℕ}
+use Prim.Native.Nat.{ℕ, _*_, _≤_}
 use mathlib.Core.Bool.{Bool, true}
 use mathlib.Core.Path.{_≡_}
 use mathlib.Core.List.{List}
 use native.Mathlib.Decide.{ℕ-discrete}
 use native.Mathlib.Omega.{arith}
 use lib.ListN.{length}
-use borrow.Author.Tests.{eq-eqb, ne-eqb}
-use Rattle.differences.specs.Calls.{lengthsRefusal, refusalOf, differencesOf}
+use borrow.Author.Tests.{eq-eqb, ne-eqb, le-leb}
+use Rattle.differences.specs.Calls.{stretchesOf, lengthsRefusal, refusalOf, differencesOf}
+use Rattle.differences.specs.Theorems.{few}
 use Rattle.differences.specs.Walk.{Pair, Usable}
 
 module _ (first second : List ℕ) (has-map : Bool) (map : List ℕ) where
@@ -48,3 +49,10 @@ module _ (first second : List ℕ) (has-map : Bool) (map : List ℕ) where
         go : Dec (lengthsRefusal first second has-map map ≡ 0) → lengthsRefusal first second has-map map ≡ 0
         go (yes z) = z
         go (no n) = rw (ne-eqb _ _ n) at e
+
+    -- A row of 65,536 numbers is never too short.
+    pub room-enough : lengthsRefusal first second has-map map ≡ 0 → 65536 ≤ length row → refusalOf first second has-map map row ≡ 0
+    unfolding refusalOf
+    room-enough z h =
+        let enough : 2 * length (stretchesOf first second) ≤ length row = omega (arith, few first second) in
+        rw (eq-eqb _ _ z, le-leb _ _ enough)

@@ -80,6 +80,13 @@ module _ (test : ℕ → Bool) where
       let later = begins (suc (s .last)) rest (m .2) i (omega arith) in
       (omega (arith, m .0, m .1 .before .ahead, later .0), later .1, later .2)
 
+  -- and ends there, or later, within the memory
+  ends : (at : ℕ) (stretches : List Stretch) → MaximalFrom test at stretches → (i : ℕ) → i < length stretches
+      → (nth stretches i .first ≤ nth stretches i .last) × (nth stretches i .last < 65536)
+  ends at [] m i h = absurd (omega arith)
+  ends at (s ∷ rest) m zero h = (m .0, m .1 .throughout .within)
+  ends at (s ∷ rest) m (suc i) h = ends (suc (s .last)) rest (m .2) i (omega arith)
+
   -- the address behind each does not pass, and all that follow begin behind that one
   apart : (at : ℕ) (stretches : List Stretch) → MaximalFrom test at stretches → (i j : ℕ) → i < j → j < length stretches
       → (suc (nth stretches i .last) < nth stretches j .first) × (test (suc (nth stretches i .last)) ≡ false)
@@ -187,6 +194,9 @@ module _ (mark : ℕ → Bool) where
 -- ---- the theorems
 
 module _ (first second : List ℕ) where
+  agrees : (k : ℕ) → differ first second k ≡ false → getD first k 0 ≡ getD second k 0
+  agrees k e = eqb-true _ _ (not-false _ e)
+
   -- The stretches of two memories are the maximal ones, from the first address on: Maximal says what that is, and that no other list is so.
   pub all-maximal : MaximalFrom (differ first second) 0 (stretchesOf first second)
   all-maximal = maximal (differ first second) 65536 0 refl
@@ -195,10 +205,13 @@ module _ (first second : List ℕ) where
   pub in-exactly-one : (k : ℕ) → k < 65536 → holding k (stretchesOf first second) ≡ cond (differ first second k) 1 0
   in-exactly-one k h = held (differ first second) 0 (stretchesOf first second) all-maximal k (omega arith) h
 
-  agrees : (k : ℕ) → differ first second k ≡ false → getD first k 0 ≡ getD second k 0
-  agrees k e = eqb-true _ _ (not-false _ e)
+  -- Each stretch has an address, and its last one is below 65,536.
+  pub each-within : (i : ℕ) → i < length (stretchesOf first second)
+      → (nth (stretchesOf first second) i .first ≤ nth (stretchesOf first second) i .last)
+      × (nth (stretchesOf first second) i .last < 65536)
+  each-within i h = ends (differ first second) 0 (stretchesOf first second) all-maximal i h
 
-  -- The stretches ascend, and at least one equal address stands between any two of them.
+  -- They ascend, and at least one equal address stands between any two of them.
   pub ascending : (i j : ℕ) → i < j → j < length (stretchesOf first second)
       → Before first second (nth (stretchesOf first second) i) (nth (stretchesOf first second) j)
   ascending i j h k =
@@ -210,7 +223,7 @@ module _ (first second : List ℕ) where
         equal = agrees (suc (nth (stretchesOf first second) i .last)) (gap .1);
       }
 
-  -- There are at most 32,768, so that a row of 65,536 numbers is never too short.
+  -- There are at most 32,768.
   pub few : length (stretchesOf first second) ≤ 32768
   few = omega (arith, few-from (differ first second) 0 (stretchesOf first second) all-maximal)
 
