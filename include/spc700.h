@@ -14,7 +14,8 @@
  *     belong to the caller.
  *   - No two regions of one call overlap.
  *   - Nothing else reads or writes them while the call runs.
- * These three are the caller's to keep: the proofs rest on them. Lengths need no care: a wrong one is refused.
+ * These three are the caller's to keep: the proofs rest on them. Where a region has to have one length, another one is refused. The code
+ * and the text of spc700_text and the row of spc700_differences may have any length, so what is told there is taken.
  *
  * What a call answers: one number, which spc700_refusal, spc700_stop and spc700_number below take apart.
  *   bits 0 to 31    the number: steps, bytes of text, or stretches; else 0
@@ -117,21 +118,21 @@ uint64_t spc700_counts(
  * Each stretch is as long as possible: at least one address at which they are equal stands between two of them.
  *
  * first, second   65,536 bytes each, which stay as they are.
- * has_map         0: there is no map. Any other number: there is one.
- * map             a map, as spc700_step keeps them. Where has_map is 0 it is not looked at, and its length may be any; the pointer is not
- *                 NULL then, either.
- * row             16-bit numbers: first and last address of the first stretch, then those of the second, and so on. Its length counts
- *                 numbers. Those behind the last stretch stay as they are. With 65,536 numbers (SPC700_DIFFERENCES) it is never too short:
- *                 there are at most 32,768 stretches.
+ * has_map         0: there is no map. 1 to 255: there is one.
+ * map             a map, as spc700_step keeps them. Where has_map is 0 it is not looked at: lend any address that is not NULL, with the
+ *                 length 0.
+ * row             16-bit numbers, which the call writes: first and last address of the first stretch, then those of the second, and so on.
+ *                 Those behind the last stretch stay as they are. Its length counts numbers, not bytes: `sizeof row` is twice as much, is
+ *                 not refused, and lets the call write behind the row. With 65,536 numbers (SPC700_DIFFERENCES) a row is never too short,
+ *                 as there are at most 32,768 stretches.
  *
  * Answers how many stretches there are as the number, 0 where the memories are equal. The stop is 1 where there is a map and an address of
  * some stretch is marked in it, else 0.
  *
- * What a stop of 0 tells: if the map is the one that a run on `first` left in `reads`, all maps having been zeros before it, then a run on
- * `second` with the same registers and budget gives the same registers, steps, stop and maps, and equal bytes at every address that is
- * marked in `writes`; every other address keeps its own memory's byte. Compare the memories as they were before the runs.
- *
- * A refused call has a stop of 0, too: look at the refusal first.
+ * What refusal 0 and stop 0 tell where there is a map: if the map is the `reads` that a run on `first` left, from maps of zeros, then a run
+ * on `second` from maps of zeros, with the same registers and budget, gives the same registers, steps, stop and maps, and equal bytes at
+ * every address that is marked in `writes`; every other address keeps its own memory's byte. `first` and `second` are the memories as they
+ * were before the runs. It is about what the processor reads: samples that the sound chip fetches by itself leave no mark.
  * Refusals: 1, 2, 3. */
 uint64_t spc700_differences(
     const uint8_t *first, size_t first_length,

@@ -8,19 +8,14 @@ SOURCE = ROOT / "tests" / "c" / "calls.c"
 BEHIND = b"\xa5" * 8
 
 
-def raw(region):
-    """The bytes of a region: bytes, or an array of numbers."""
-    return bytes(memoryview(region).cast("B"))
-
-
 def number(value):
     """An argument that is no region, for a place where a region would stand."""
     return value.to_bytes(4, "little")
 
 
 def lent(region):
-    """A region as the program is lent it, and gives it back: its bytes, and eight more that no call may touch."""
-    return raw(region) + BEHIND
+    """A region, bytes or an array of numbers, as the program is lent it and gives it back: eight more bytes, which no call may touch."""
+    return bytes(region) + BEHIND
 
 
 def case(kind, *regions):

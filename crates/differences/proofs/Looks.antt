@@ -9,7 +9,7 @@ use native.Mathlib.Omega.{arith}
 use lib.ListN.{length}
 use Rattle.marks.specs.Maps.{isMarked}
 use Rattle.differences.specs.Stretches.{someFrom}
-use Rattle.differences.specs.Calls.{marksIn}
+use Rattle.differences.specs.Calls.{marksOf}
 use Rattle.differences.specs.Walk.{Usable, touchesUpTo}
 
 -- The first address, and those behind it.
@@ -19,11 +19,11 @@ touches-step mark at to h = let more : to - at ≡ suc (to - suc at) = omega ari
 
 module _ (has-map : Bool) (map : List ℕ) where
   -- Without a map nothing is touched.
-  pub no-map : has-map ≡ false → (from to : ℕ) → false ≡ touchesUpTo (marksIn has-map map) from to
+  pub no-map : has-map ≡ false → (from to : ℕ) → false ≡ touchesUpTo (marksOf has-map map) from to
   unfolding someFrom
   no-map e from to = sym (go (to - from) from)
     where
-      go : (n at : ℕ) → someFrom (marksIn has-map map) at n ≡ false
+      go : (n at : ℕ) → someFrom (marksOf has-map map) at n ≡ false
       go zero at = refl
       go (suc n) at = rw e (rw e at (go n (suc at)))
 
@@ -33,24 +33,24 @@ module _ (has-map : Bool) (map : List ℕ) where
   -- From here on as much is touched as from the beginning on.
   pub record Looking (from to at : ℕ) : Type 0 where
     pub ahead : from ≤ at
-    pub same : touchesUpTo (marksIn has-map map) at to ≡ touchesUpTo (marksIn has-map map) from to
+    pub same : touchesUpTo (marksOf has-map map) at to ≡ touchesUpTo (marksOf has-map map) from to
 
   pub look : (from to : ℕ) → Looking from to from
   look from to = record { ahead = omega arith; same = refl }
 
   module _ {from to at : ℕ} (l : Looking from to at) where
-    pub no-mark : to ≤ at → false ≡ touchesUpTo (marksIn has-map map) from to
+    pub no-mark : to ≤ at → false ≡ touchesUpTo (marksOf has-map map) from to
     unfolding someFrom
     no-mark h = let none : to - at ≡ 0 = omega arith in rw none at (l .same)
 
     module _ {b : Bool} (given : has-map ≡ true) (h : at < to) (is : b ≡ isMarked map at) where
-      here : marksIn has-map map at ≡ b
+      here : marksOf has-map map at ≡ b
       here = rw (given, is)
 
-      step : b || touchesUpTo (marksIn has-map map) (at + 1) to ≡ touchesUpTo (marksIn has-map map) from to
-      step = rw (← here) (sym (touches-step (marksIn has-map map) at to h) ∙ l .same)
+      step : b || touchesUpTo (marksOf has-map map) (at + 1) to ≡ touchesUpTo (marksOf has-map map) from to
+      step = rw (← here) (sym (touches-step (marksOf has-map map) at to h) ∙ l .same)
 
-      pub a-mark : b ≡ true → true ≡ touchesUpTo (marksIn has-map map) from to
+      pub a-mark : b ≡ true → true ≡ touchesUpTo (marksOf has-map map) from to
       a-mark e = rw e at step
 
       pub not-marked : b ≡ false → Looking from to (at + 1)

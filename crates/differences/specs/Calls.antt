@@ -21,8 +21,8 @@ abbrev pub stretchesOf : List ℕ → List ℕ → List Stretch
 stretchesOf first second = stretchesFrom (differ first second) 0 65536
 
 -- The marks of a map where there is one; without it, none.
-abbrev pub marksIn : Bool → List ℕ → ℕ → Bool
-marksIn has-map map k = has-map && isMarked map k
+abbrev pub marksOf : Bool → List ℕ → ℕ → Bool
+marksOf has-map map k = has-map && isMarked map k
 
 -- First and last address of each stretch, one after the other.
 unfoldable pub numbersOf : List Stretch → List ℕ
@@ -40,7 +40,7 @@ lengthsRefusal first second has-map map =
     (cond has-map (cond (eqb (length map) 8192) 0 2) 0)
     1
 
--- After these, 3 exactly if the row is too short for two numbers a stretch.
+-- After these, 3 exactly if the row has fewer than two numbers for each stretch.
 unfoldable pub refusalOf : List ℕ → List ℕ → Bool → List ℕ → List ℕ → ℕ
 refusalOf first second has-map map row =
     cond (eqb (lengthsRefusal first second has-map map) 0)
@@ -55,17 +55,17 @@ refused refusal = record { refusal = refusal; stretches = 0; touched = false }
 abbrev pub accepted : List Stretch → (ℕ → Bool) → Differences
 accepted stretches mark = record { refusal = 0; stretches = length stretches; touched = touched mark stretches }
 
-abbrev pub answered : Differences → List ℕ → Outcome (List ℕ) Differences
-answered differences row = record { result = differences; left = row }
+-- an answer, and what the row then has
+abbrev pub withRow : Differences → List ℕ → Outcome (List ℕ) Differences
+withRow differences row = record { result = differences; left = row }
 
 -- What a comparison answers, and what it leaves in the row: refused, the row as it was.
 abbrev pub differencesOf : List ℕ → List ℕ → Bool → List ℕ → List ℕ → Outcome (List ℕ) Differences
 differencesOf first second has-map map row =
     let stretches = stretchesOf first second in
-    cond (eqb (refusalOf first second has-map map row) 0)
-    (answered (accepted stretches (marksIn has-map map)) (written stretches row))
-    (answered (refused (refusalOf first second has-map map row)) row)
+    let refusal = refusalOf first second has-map map row in
+    cond (eqb refusal 0) (withRow (accepted stretches (marksOf has-map map)) (written stretches row)) (withRow (refused refusal) row)
 
 -- What it promises: it answers and leaves what `call` makes of what the row held before.
 abbrev pub Finds : (List ℕ → Outcome (List ℕ) Differences) → Lent → Differences → Type 0
-Finds call row r = answered r (now (row .exit)) ≡ call (now (row .entry))
+Finds call row r = withRow r (now (row .exit)) ≡ call (now (row .entry))

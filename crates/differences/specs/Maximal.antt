@@ -1,5 +1,5 @@
--- What it is for a list to be the maximal stretches of the addresses that pass a test; that the defined list is so, and no other list is.
--- Below the theorems stand their proofs.
+-- What it is for a list to be the maximal stretches of the addresses that pass a test; that the defined list is so, and no other list is:
+-- the theorems are `maximal` and `only`, and all else below the definitions is for their proofs.
 -- Assumes nothing.
 use Prim.Native.Nat.{ℕ, zero, suc, _+_, _<_, _≤_}
 use mathlib.Core.Bool.{Bool, true, false, cond, true≢false}
@@ -7,6 +7,7 @@ use mathlib.Core.Path.{_≡_, refl, sym, _∙_}
 use mathlib.Core.List.{List, [], _∷_}
 use native.Mathlib.Decide.{ℕ-discrete, decLt}
 use native.Mathlib.Omega.{arith}
+use lib.Dec.{eqb}
 use borrow.Author.Tests.{eq-eqb, ne-eqb}
 use Rattle.differences.specs.Stretches.{Stretch, stretch, withAddress, stretchesFrom}
 
@@ -59,6 +60,10 @@ module _ {test : ℕ → Bool} {answer : Bool} where
 pub both-answers : {b : Bool} → b ≡ true → b ≡ false → ⊥
 both-answers t f = true≢false (sym t ∙ f)
 
+-- What holds of either thing holds of the one that is chosen by whether two numbers are equal.
+either : {A : Type 0} (a b : ℕ) {x y : A} (P : A → Type 0) → (a ≡ b → P x) → ((a ≡ b → ⊥) → P y) → P (cond (eqb a b) x y)
+either a b P f g = elim (ℕ-discrete a b) [ yes q ↦ rw (eq-eqb _ _ q) (f q) | no q ↦ rw (ne-eqb _ _ q) (g q) ]
+
 module _ (test : ℕ → Bool) where
   -- ---- the defined list is so
 
@@ -81,23 +86,22 @@ module _ (test : ℕ → Bool) where
       → MaximalFrom test at (withAddress at stretches)
   unfolding withAddress
   taken-in {at} [] h e m = alone [] h e (λ k. m .each (suc at) (omega arith) k) m
-  taken-in {at} (s ∷ rest) h e m = go (ℕ-discrete (s .first) (suc at))
+  taken-in {at} (s ∷ rest) h e m =
+      either (s .first) _ (MaximalFrom test at)
+      (λ q. joined (omega (arith, m .1 .before .ahead)))
+      (λ q. apart (omega (arith, m .1 .before .ahead)))
     where
       next : Next test (suc at) (s .first) (suc (s .last))
       next = m .1
 
-      go : Dec (s .first ≡ suc at) → MaximalFrom test at (withAddress at (s ∷ rest))
-      go (yes q) =
+      joined : s .first ≡ suc at → MaximalFrom test at (stretch at (s .last) ∷ rest)
+      joined q =
           let on : Throughout test true (suc at) (suc (s .last)) = rw q at (next .throughout) in
           let ahead : suc at ≤ s .last = rw q at (m .0) in
-          rw (eq-eqb _ _ q) (
-            omega arith,
-            record { before = no-address (omega arith); throughout = one-before on e; behind = next .behind },
-            m .2,
-          )
-      go (no q) =
-          let apart : suc at < s .first = omega (arith, next .before .ahead) in
-          rw (ne-eqb _ _ q) (alone (s ∷ rest) h e (λ k. next .before .each (suc at) (omega arith) apart) m)
+          (omega arith, record { before = no-address (omega arith); throughout = one-before on e; behind = next .behind }, m .2)
+
+      apart : suc at < s .first → MaximalFrom test at (stretch at at ∷ s ∷ rest)
+      apart q = alone (s ∷ rest) h e (λ k. next .before .each (suc at) (omega arith) q) m
 
   -- The defined list is the maximal stretches of the addresses from one up to 65,536,
   pub maximal : (n at : ℕ) → at + n ≡ 65536 → MaximalFrom test at (stretchesFrom test at n)

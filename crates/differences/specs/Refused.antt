@@ -13,6 +13,7 @@ use Rattle.differences.specs.Theorems.{few}
 use Rattle.differences.specs.Walk.{Pair, Usable}
 
 module _ (first second : List ℕ) (has-map : Bool) (map : List ℕ) where
+  -- Where no length is refused, both memories have the right one, and the map, if there is one.
   pub paired : lengthsRefusal first second has-map map ≡ 0 → Pair first second
   unfolding lengthsRefusal
   paired e = go (ℕ-discrete (length first) 65536) (ℕ-discrete (length second) 65536)
@@ -34,7 +35,7 @@ module _ (first second : List ℕ) (has-map : Bool) (map : List ℕ) where
           absurd (omega arith)
 
   module _ (row : List ℕ) where
-    -- An answer of 0 comes from no refusal at all, and so the lengths are right.
+    -- Where an answer's refusal is 0, no test failed, and so no length is refused.
     pub nothing-refused : differencesOf first second has-map map row .result .refusal ≡ 0 → refusalOf first second has-map map row ≡ 0
     nothing-refused e = go (ℕ-discrete (refusalOf first second has-map map row) 0)
       where

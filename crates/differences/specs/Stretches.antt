@@ -27,7 +27,7 @@ unfoldable pub someFrom : (ℕ → Bool) → ℕ → ℕ → Bool
 someFrom test at zero = false
 someFrom test at (suc n) = test at || someFrom test (suc at) n
 
--- Whether an address of a stretch is marked; whether one of some stretches is.
+-- Whether a stretch touches a mark: whether one of its addresses is marked. Whether one of some stretches does.
 abbrev pub touches : (ℕ → Bool) → Stretch → Bool
 touches mark s = someFrom mark (s .first) (suc (s .last) - s .first)
 

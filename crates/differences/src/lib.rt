@@ -1,10 +1,10 @@
 // What differs between two images of memory, and whether it touches what a read map marks.
 ghost use mathlib.Core.Path.{_≡_};
 ghost use Prim.Native.Nat.{_≤_};
-ghost use Rattle.differences.specs.Calls.{stretchesOf, marksIn, refused, accepted, lengthsRefusal, written, Finds, differencesOf};
+ghost use Rattle.differences.specs.Calls.{stretchesOf, marksOf, refused, accepted, lengthsRefusal, written, Finds, differencesOf};
 ghost use Rattle.differences.specs.Walk.{Pair, Usable, Room, Found, touchesUpTo};
 
-// What a comparison answers: refusal 0, how many stretches differ, and whether one of them touches a mark; or the refusal, 0 and no.
+// What a comparison answers: refusal 0, how many stretches there are, and whether one of them touches a mark; or the refusal, 0 and no.
 pub struct Differences {
     pub refusal: u8,
     pub stretches: u32,
@@ -36,7 +36,7 @@ fn stretch_from(first: &[u8], second: &[u8], from: usize) -> Span
 // Whether there is a map and it marks an address of a stretch. The first mark decides.
 fn touches(has_map: bool, map: &[u8], span: Span) -> bool
     requires { ⌜ Usable «has_map» (now map) × (span .end ≤ 65536) ⌝ }
-    ensures { λ r. ⌜ r ≡ touchesUpTo (marksIn «has_map» (now (map .entry))) (span .first) (span .end) ⌝ }
+    ensures { λ r. ⌜ r ≡ touchesUpTo (marksOf «has_map» (now (map .entry))) (span .first) (span .end) ⌝ }
 {
     if !has_map {
         return false;
@@ -51,10 +51,10 @@ fn touches(has_map: bool, map: &[u8], span: Span) -> bool
     false
 }
 
-// How many stretches differ, and whether one of them touches a mark. Once one does, the map is not looked at any more.
+// How many stretches there are, and whether one of them touches a mark. Once one does, the map is not looked at any more.
 fn count(first: &[u8], second: &[u8], has_map: bool, map: &[u8]) -> Differences
     requires { ⌜ Pair (now first) (now second) × Usable «has_map» (now map) ⌝ }
-    ensures { λ r. ⌜ r ≡ accepted (stretchesOf (now (first .entry)) (now (second .entry))) (marksIn «has_map» (now (map .entry))) ⌝ }
+    ensures { λ r. ⌜ r ≡ accepted (stretchesOf (now (first .entry)) (now (second .entry))) (marksOf «has_map» (now (map .entry))) ⌝ }
 {
     let mut stretches: u32 = 0;
     let mut touched = false;
@@ -120,8 +120,8 @@ fn refusal_of(first: &[u8], second: &[u8], has_map: bool, map: &[u8]) -> u8
 
 // The differences between two memories: first and last address of every stretch, each as long as possible and in ascending order, into
 // the lent row, whose rest stays. Where `has_map` says that there is a map, the answer says whether a stretch touches a mark. Refusals:
-// 1 a memory is not 65,536 bytes, 2 there is a map that is not 8,192 bytes, 3 the row is too short for all stretches, two numbers each;
-// to know this they are counted before any is written.
+// 1 a memory is not 65,536 bytes, 2 there is a map that is not 8,192 bytes, 3 the row has fewer than two numbers for each stretch; to
+// know this, all are counted before one is written.
 pub fn between(
     first: &[u8],
     second: &[u8],

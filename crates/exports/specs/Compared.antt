@@ -12,7 +12,7 @@ use Rattle.runs.specs.Same.{Same}
 use Rattle.engine.specs.Provenance.{played}
 use Rattle.differences.specs.Calls.{refusalOf, differencesOf}
 use Rattle.differences.specs.Theorems.{few}
-use Rattle.differences.specs.SameRun.{same-run}
+use Rattle.differences.specs.SameRun.{same-run-compared}
 use Rattle.exports.specs.Calls.{differencesNumber, differencesCall}
 use Rattle.exports.specs.Parts.{refusal-part, stop-part}
 
@@ -25,9 +25,9 @@ few-told first second has-map map row =
       | no n ↦ rw (ne-eqb _ _ n) (omega arith)
     ]
 
-one-or-zero : (b : Bool) → cond b 1 0 < 2 ^ 8
-one-or-zero true = omega arith
-one-or-zero false = omega arith
+a-byte : (b : Bool) → cond b 1 0 < 2 ^ 8
+a-byte true = omega arith
+a-byte false = omega arith
 
 no-touch : (b : Bool) → _≡_ {A = ℕ} (cond b 1 0) 0 → b ≡ false
 no-touch true e = absurd (omega arith)
@@ -46,9 +46,9 @@ module _ (budget : ℕ) (cpu : Processor) (image second row : List ℕ) (has-map
       let d = differencesOf image second true map row .result in
       let number-is : number ≡ differencesNumber d = rw (ne-eqb _ _ given) in
       let word : d .stretches < 2 ^ 32 = omega (arith, few-told image second true map row) in
-      let byte = one-or-zero (d .touched) in
+      let byte = a-byte (d .touched) in
       let refusal = refusal-part (d .refusal) (cond (d .touched) 1 0) (d .stretches) byte word in
       let stop = stop-part (d .refusal) (cond (d .touched) 1 0) (d .stretches) byte word in
-      same-run budget cpu image second row
+      same-run-compared budget cpu image second row
       (sym refusal ∙ rw number-is at no-refusal)
       (no-touch (d .touched) (sym stop ∙ rw number-is at no-stop))

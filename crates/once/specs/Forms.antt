@@ -10,7 +10,7 @@ use Rattle.text.specs.declared.Written.{Written}
 use Rattle.text.specs.Given.{Wanted, Given}
 use Rattle.text.proofs.Laws.{given-once}
 use Rattle.laws.specs.Filled.{Filled, filled}
-use Rattle.differences.specs.Calls.{answered}
+use Rattle.differences.specs.Calls.{withRow}
 use Rattle.differences.specs.declared.Differences.{Differences}
 use Rattle.exports.specs.Calls.{Called, called}
 use Rattle.once.specs.Law.{nothing}
@@ -19,7 +19,7 @@ use Rattle.once.specs.Law.{nothing}
 pub answers : {A : Type 0} {x y z : A} → x ≡ z → y ≡ z → (x ≡ y) × (nothing ≡ nothing)
 answers p q = (p ∙ sym q, refl)
 
--- the bytes of a slice that is answered
+-- the bytes of a slice that is withRow
 pub shows : {s t z : List ℕ} → s ≡ z → t ≡ z → s ≡ t
 shows p q = p ∙ sym q
 
@@ -64,5 +64,5 @@ pub fills : {x y : ℕ} {a b : List ℕ} {c : Filled} → filled x a ≡ c → f
 fills p q = let same = p ∙ sym q in (ap (λ c. c .answer) same, ap (λ c. c .left) same)
 
 -- a comparison: what it answers, and the row
-pub finds : {x y : Differences} {a b : List ℕ} {o : Outcome (List ℕ) Differences} → answered x a ≡ o → answered y b ≡ o → (x ≡ y) × (a ≡ b)
+pub finds : {x y : Differences} {a b : List ℕ} {o : Outcome (List ℕ) Differences} → withRow x a ≡ o → withRow y b ≡ o → (x ≡ y) × (a ≡ b)
 finds p q = let same = p ∙ sym q in (ap (λ o. o .result) same, ap (λ o. o .left) same)

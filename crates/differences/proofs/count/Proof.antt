@@ -3,14 +3,14 @@
 use Prim.Native.Nat.{_-_}
 use mathlib.Core.Logic.{⊎-elim}
 use borrow.Author.Needs.{needs}
-use Rattle.differences.specs.Calls.{marksIn}
+use Rattle.differences.specs.Calls.{marksOf}
 use Rattle.differences.proofs.Counting.{Counting, begin-count, all-counted, countable, farther, touched-before, touched-now}
 use Rattle.differences.proofs.count.Statement.{statement}
 use Rattle.differences.proofs.count.Tie as tie
 
 abbrev Inv-loop : tie.InvT-loop
 Inv-loop first second has-map map stretches₀ touched₀ next₀ stretches touched next =
-    Counting first second (marksIn has-map map) stretches touched next
+    Counting first second (marksOf has-map map) stretches touched next
 
 abbrev μ-loop : tie.MeasureT-loop
 μ-loop first second has-map map stretches₀ touched₀ next₀ stretches touched next = 65536 - next .first
