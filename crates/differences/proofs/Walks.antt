@@ -1,8 +1,8 @@
 -- The walk to the next stretch, and to its end, one address at a time.
 -- Assumes nothing.
 use Prim.Native.Nat.{ℕ, _+_, _<_, _≤_}
-use mathlib.Core.Bool.{true, false, true≢false}
-use mathlib.Core.Path.{_≡_, sym, _∙_}
+use mathlib.Core.Bool.{true, false}
+use mathlib.Core.Path.{_≡_}
 use mathlib.Core.List.{List}
 use native.Mathlib.Decide.{decLt}
 use native.Mathlib.Numerals.{unary-clauses}
@@ -10,7 +10,7 @@ use native.Mathlib.Omega.{arith}
 use lib.Dec.{eqb}
 use lib.ListN.{getD}
 use Rattle.differences.specs.Calls.{differ}
-use Rattle.differences.specs.Maximal.{Throughout, no-address, one-behind}
+use Rattle.differences.specs.Maximal.{Throughout, no-address, one-behind, both-answers, settled}
 use Rattle.differences.specs.Walk.{Found}
 
 module _ (first second : List ℕ) where
@@ -46,15 +46,13 @@ module _ (first second : List ℕ) where
       → Found first second from (record { first = at; end = end })
   leave {from} {at} {end} w e = record {
     next = record { before = w .before; throughout = w .throughout; behind = e };
-    some = λ h. go h (decLt at end);
+    some = λ h. settled (decLt at end) (λ n. absurd (not-empty h n));
   }
     where
-      go : at < 65536 → Dec (at < end) → at < end
-      go h (yes q) = q
-      go h (no q) =
+      not-empty : at < 65536 → (at < end → ⊥) → ⊥
+      not-empty h n =
           let same : end ≡ at = omega (arith, w .throughout .ahead) in
-          let equal : differ first second at ≡ false = rw same at (e (omega arith)) in
-          absurd (true≢false (sym (w .there h) ∙ equal))
+          both-answers (w .there h) (rw same at (e (omega arith)))
 
   pub leave-stretch : {from at end : ℕ} → Within from at end → differ first second end ≡ false
       → Found first second from (record { first = at; end = end })

@@ -10,6 +10,7 @@ use lib.ListN.{length, set, length-set}
 use lib.Seq.{sets, sets-eq}
 use Rattle.differences.specs.Stretches.{Stretch}
 use Rattle.differences.specs.Calls.{numbersOf, written}
+use Rattle.differences.specs.Maximal.{settled}
 use Rattle.differences.specs.Walk.{Room, Found}
 use Rattle.differences.specs.declared.Span.{Span}
 use Rattle.differences.proofs.Rests.{rest, end-within, none-found, one-found, one-fewer}
@@ -49,11 +50,9 @@ module _ (first second : List ℕ) where
       module _ {s : Span} (h : at < numbers) (f : Found first second from s) where
         -- numbers are left to be stored, so a stretch was found
         pub found-one : s .first < 65536
-        found-one = go (decLt (s .first) 65536)
-          where
-            go : Dec (s .first < 65536) → s .first < 65536
-            go (yes q) = q
-            go (no q) = let none = none-found first second f (omega arith) in absurd (omega (arith, rw none at (w .left)))
+        found-one =
+            settled (decLt (s .first) 65536)
+            (λ n. let none = none-found first second f (omega arith) in absurd (omega (arith, rw none at (w .left))))
 
         pub some-end : 1 ≤ s .end
         some-end = omega (arith, f .some found-one)

@@ -60,6 +60,11 @@ module _ {test : ℕ → Bool} {answer : Bool} where
 pub both-answers : {b : Bool} → b ≡ true → b ≡ false → ⊥
 both-answers t f = true≢false (sym t ∙ f)
 
+-- What can be decided holds if it follows from its own negation.
+pub settled : {P : Type 0} → Dec P → ((P → ⊥) → P) → P
+settled (yes p) f = p
+settled (no n) f = f n
+
 -- What holds of either thing holds of the one that is chosen by whether two numbers are equal.
 either : {A : Type 0} (a b : ℕ) {x y : A} (P : A → Type 0) → (a ≡ b → P x) → ((a ≡ b → ⊥) → P y) → P (cond (eqb a b) x y)
 either a b P f g = elim (ℕ-discrete a b) [ yes q ↦ rw (eq-eqb _ _ q) (f q) | no q ↦ rw (ne-eqb _ _ q) (g q) ]

@@ -9,6 +9,7 @@ use native.Mathlib.Omega.{arith}
 use lib.ListN.{length}
 use borrow.Author.Tests.{eq-eqb, ne-eqb, le-leb}
 use Rattle.differences.specs.Calls.{stretchesOf, lengthsRefusal, refusalOf, differencesOf}
+use Rattle.differences.specs.Maximal.{settled}
 use Rattle.differences.specs.Theorems.{few}
 use Rattle.differences.specs.Walk.{Pair, Usable}
 
@@ -25,11 +26,10 @@ module _ (first second : List ℕ) (has-map : Bool) (map : List ℕ) where
 
   pub usable : lengthsRefusal first second has-map map ≡ 0 → Usable has-map map
   unfolding lengthsRefusal
-  usable e = record { size = λ h. go h (ℕ-discrete (length map) 8192) }
+  usable e = record { size = λ h. settled (ℕ-discrete (length map) 8192) (wrong h) }
     where
-      go : has-map ≡ true → Dec (length map ≡ 8192) → length map ≡ 8192
-      go h (yes m) = m
-      go h (no m) =
+      wrong : has-map ≡ true → (length map ≡ 8192 → ⊥) → length map ≡ 8192
+      wrong h m =
           let p = paired e in
           let two : _≡_ {A = ℕ} 2 0 = rw (eq-eqb _ _ (p .first-size), eq-eqb _ _ (p .second-size), h, ne-eqb _ _ m) at e in
           absurd (omega arith)
@@ -37,19 +37,11 @@ module _ (first second : List ℕ) (has-map : Bool) (map : List ℕ) where
   module _ (row : List ℕ) where
     -- Where an answer's refusal is 0, no test failed, and so no length is refused.
     pub nothing-refused : differencesOf first second has-map map row .result .refusal ≡ 0 → refusalOf first second has-map map row ≡ 0
-    nothing-refused e = go (ℕ-discrete (refusalOf first second has-map map row) 0)
-      where
-        go : Dec (refusalOf first second has-map map row ≡ 0) → refusalOf first second has-map map row ≡ 0
-        go (yes z) = z
-        go (no n) = rw (ne-eqb _ _ n) at e
+    nothing-refused e = settled (ℕ-discrete (refusalOf first second has-map map row) 0) (λ n. rw (ne-eqb _ _ n) at e)
 
     pub lengths-right : refusalOf first second has-map map row ≡ 0 → lengthsRefusal first second has-map map ≡ 0
     unfolding refusalOf
-    lengths-right e = go (ℕ-discrete (lengthsRefusal first second has-map map) 0)
-      where
-        go : Dec (lengthsRefusal first second has-map map ≡ 0) → lengthsRefusal first second has-map map ≡ 0
-        go (yes z) = z
-        go (no n) = rw (ne-eqb _ _ n) at e
+    lengths-right e = settled (ℕ-discrete (lengthsRefusal first second has-map map) 0) (λ n. rw (ne-eqb _ _ n) at e)
 
     -- A row of 65,536 numbers is never too short.
     pub room-enough : lengthsRefusal first second has-map map ≡ 0 → 65536 ≤ length row → refusalOf first second has-map map row ≡ 0

@@ -12,7 +12,7 @@ use lib.ListN.{length, getD}
 use borrow.Author.Tests.{le-leb, lt-leb, eq-eqb, eqb-true, not-false}
 use Rattle.differences.specs.Stretches.{Stretch, stretch, someFrom, touches, touched}
 use Rattle.differences.specs.Calls.{differ, stretchesOf}
-use Rattle.differences.specs.Maximal.{MaximalFrom, not-first, both-answers, maximal}
+use Rattle.differences.specs.Maximal.{MaximalFrom, not-first, both-answers, settled, maximal}
 
 -- Whether an address lies in a stretch; in how many of some stretches it lies.
 abbrev pub liesIn : ℕ → Stretch → Bool
@@ -96,11 +96,10 @@ module _ (test : ℕ → Bool) where
   apart at (s ∷ rest) m zero (suc j) h k =
       let other = begins (suc (s .last)) rest (m .2) j (omega arith) in
       let equal = m .1 .behind (omega (arith, other .0, other .1)) in
-      (go (other .0) (other .2) equal (decLt (suc (s .last)) (nth rest j .first)), equal)
+      (settled (decLt (suc (s .last)) (nth rest j .first)) (λ n. absurd (not-there (other .0) (other .2) equal n)), equal)
     where
-      go : {k : ℕ} → suc (s .last) ≤ k → test k ≡ true → test (suc (s .last)) ≡ false → Dec (suc (s .last) < k) → suc (s .last) < k
-      go a t f (yes h) = h
-      go {k} a t f (no h) = let there : k ≡ suc (s .last) = omega arith in absurd (both-answers (rw there at t) f)
+      not-there : {k : ℕ} → suc (s .last) ≤ k → test k ≡ true → test (suc (s .last)) ≡ false → (suc (s .last) < k → ⊥) → ⊥
+      not-there {k} a t f n = let there : k ≡ suc (s .last) = omega arith in both-answers (rw there at t) f
 
   few-from : (at : ℕ) (stretches : List Stretch) → MaximalFrom test at stretches → 2 * length stretches + at ≤ 65537
   few-from at [] m = omega (arith, m .ahead)
