@@ -19,7 +19,7 @@ use Rattle.once.specs.Law.{nothing}
 pub answers : {A : Type 0} {x y z : A} → x ≡ z → y ≡ z → (x ≡ y) × (nothing ≡ nothing)
 answers p q = (p ∙ sym q, refl)
 
--- the bytes of a slice that is withRow
+-- the bytes of a slice that is answered
 pub shows : {s t z : List ℕ} → s ≡ z → t ≡ z → s ≡ t
 shows p q = p ∙ sym q
 
