@@ -1,5 +1,5 @@
-/* A run by the static library: the program `run`'s input (four bytes of budget, low first, seven register bytes, the memory) from standard
- * input; the stop and the steps to standard output, as `run` prints them. bench/measure counts its instructions. */
+/* A run by the static library: the program `run`'s input (the edition, four bytes of budget, low first, seven register bytes, the memory)
+ * from standard input; the stop and the steps to standard output, as `run` prints them. bench/measure counts its instructions. */
 #include <stdint.h>
 #include "spc700.h"
 
@@ -8,6 +8,7 @@ int printf(const char *format, ...);
 long read(int file, void *to, size_t length);
 
 static struct {
+    uint8_t edition;
     uint8_t budget[4];
     uint8_t registers[SPC700_REGISTERS];
     uint8_t memory[SPC700_MEMORY];
@@ -36,7 +37,7 @@ int main(void)
     uint32_t budget = 0;
     for (int i = 3; i >= 0; i--)
         budget = budget << 8 | input.budget[i];
-    uint64_t answer = spc700_run(input.registers, sizeof input.registers, budget, input.memory, sizeof input.memory,
+    uint64_t answer = spc700_run(input.registers, sizeof input.registers, input.edition, budget, input.memory, sizeof input.memory,
                                  reads, sizeof reads, writes, sizeof writes);
     if (spc700_refusal(answer)) {
         printf("library: refused %d\n", spc700_refusal(answer));

@@ -63,6 +63,7 @@ extern "C" {
 #define SPC700_WRONG_RECORD 6    /* the state record is not 65,543 bytes */
 #define SPC700_WRONG_FILE 7      /* the file is not 66,048 bytes */
 #define SPC700_NO_SPC_FILE 8     /* the file's first 33 bytes are not those of an SPC file */
+#define SPC700_NO_EDITION 9      /* there is no edition of this number */
 #define SPC700_NOT_DEFAULT 10    /* a byte of the file that a state record has no place for is not its default */
 
 /* Why a run stopped. A step has the same stops: 0 where its instruction was neither of the two. */
@@ -70,29 +71,37 @@ extern "C" {
 #define SPC700_STOP_SLEEP 1  /* SLEEP was executed */
 #define SPC700_STOP_STOP 2   /* STOP was executed */
 
+/* The editions of the pointer rule. They differ in one thing: where the pointer of [d]+Y and of [d+X] has its second byte if its first
+ * one is the last byte of a page. A run that is to be repeated has to be given the same edition. */
+#define SPC700_EDITION_CRATE 1 /* as the Rust crate spc700 does: at the next address, so behind 00FF comes 0100 */
+#define SPC700_EDITION_PART 2  /* as the part does: at the first address of the same page, so behind 00FF comes 0000, behind 01FF 0100 */
+
 /* Takes one step.
  *
  * registers   A X Y SP PC-low PC-high PSW, one byte each; PSW is N V P B H I Z C from bit 7 to bit 0. The step leaves them as they
  *             are after it.
+ * edition     1 or 2, of the pointer rule.
  * memory      the byte of each address. The step stores in it.
  * reads       a map: address k is bit k mod 8 of byte k div 8. The step marks each address that it reads while `writes` lacks it.
  * writes      a map, too. The step marks each address that it stores to. No call clears a mark: start with maps of zeros.
  *
  * Answers the stop, and 1 as the number: the steps taken. SLEEP and STOP count as steps; a later call goes on behind them.
- * Refusals: 6, 1, 2. */
+ * Refusals: 6, 9, 1, 2. */
 uint64_t spc700_step(
     uint8_t *registers, size_t registers_length,
+    uint8_t edition,
     uint8_t *memory, size_t memory_length,
     uint8_t *reads, size_t reads_length,
     uint8_t *writes, size_t writes_length);
 
 /* Takes steps until `budget` of them are taken (stop 0), SLEEP was executed (stop 1) or STOP was executed (stop 2), whichever comes
- * first; SLEEP or STOP as the last step of the budget is stop 1 or 2. The regions are those of spc700_step.
+ * first; SLEEP or STOP as the last step of the budget is stop 1 or 2. Regions and edition are those of spc700_step.
  *
  * Answers the stop, and the steps taken as the number. With budget 0 nothing changes.
- * Refusals: 6, 1, 2. */
+ * Refusals: 6, 9, 1, 2. */
 uint64_t spc700_run(
     uint8_t *registers, size_t registers_length,
+    uint8_t edition,
     uint32_t budget,
     uint8_t *memory, size_t memory_length,
     uint8_t *reads, size_t reads_length,
@@ -130,9 +139,9 @@ uint64_t spc700_counts(
  * some stretch is marked in it, else 0.
  *
  * What refusal 0 and stop 0 tell where there is a map: if the map is the `reads` that a run on `first` left, from maps of zeros, then a run
- * on `second` from maps of zeros, with the same registers and budget, gives the same registers, steps, stop and maps, and equal bytes at
- * every address that is marked in `writes`; every other address keeps its own memory's byte. `first` and `second` are the memories as they
- * were before the runs. It is about what the processor reads: samples that the sound chip fetches by itself leave no mark.
+ * on `second` from maps of zeros, with the same registers, edition and budget, gives the same registers, steps, stop and maps, and equal
+ * bytes at every address that is marked in `writes`; every other address keeps its own memory's byte. `first` and `second` are the memories
+ * as they were before the runs. It is about what the processor reads: samples that the sound chip fetches by itself leave no mark.
  * Refusals: 1, 2, 3. */
 uint64_t spc700_differences(
     const uint8_t *first, size_t first_length,

@@ -10,9 +10,9 @@ def record(pieces, a=0, x=0, y=0, sp=0xEF, pc=0x0200, psw=0):
     return bytes([a, x, y, sp, pc % 256, pc // 256, psw]) + bytes(memory)
 
 
-def budgeted(budget, state):
-    """An input: the budget, low byte first, and a state record."""
-    return budget.to_bytes(4, "little") + state
+def budgeted(budget, state, edition=1):
+    """An input: the number of the edition, the budget, low byte first, and a state record."""
+    return bytes([edition]) + budget.to_bytes(4, "little") + state
 
 
 def report(stop, steps, marks, a=0, x=0, y=0, sp=0xEF, pc=0x0200, psw=0):

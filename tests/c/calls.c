@@ -21,7 +21,7 @@ struct region {
     } as;
 };
 
-static struct region lent[5];
+static struct region lent[6];
 
 /* a region as two arguments, and as the number that it is */
 #define LENT(i) lent[i].as.bytes, lent[i].told
@@ -69,8 +69,9 @@ static int regions(char kind)
     case 'w':
         return 3;
     case 'd':
-    case 'n':
         return 5;
+    case 'n':
+        return 6;
     default:
         return 0;
     }
@@ -90,7 +91,7 @@ static uint64_t call(char kind)
     case 'd':
         return spc700_differences(LENT(0), LENT(1), (uint8_t)NUMBER(2), LENT(3), ROW(4));
     default:
-        return spc700_run(LENT(0), NUMBER(1), LENT(2), LENT(3), LENT(4));
+        return spc700_run(LENT(0), (uint8_t)NUMBER(1), NUMBER(2), LENT(3), LENT(4), LENT(5));
     }
 }
 

@@ -63,14 +63,17 @@ static void start(uint8_t first, uint8_t second, uint8_t third)
     before = now;
 }
 
+/* The edition of every step and run. */
+static uint8_t edition = SPC700_EDITION_CRATE;
+
 static uint64_t step(struct lengths n)
 {
-    return spc700_step(now.registers, n.registers, now.memory, n.memory, now.reads, n.reads, now.writes, n.writes);
+    return spc700_step(now.registers, n.registers, edition, now.memory, n.memory, now.reads, n.reads, now.writes, n.writes);
 }
 
 static uint64_t run(struct lengths n, uint32_t budget)
 {
-    return spc700_run(now.registers, n.registers, budget, now.memory, n.memory, now.reads, n.reads, now.writes, n.writes);
+    return spc700_run(now.registers, n.registers, edition, budget, now.memory, n.memory, now.reads, n.reads, now.writes, n.writes);
 }
 
 /* The row that a count is lent: a number more than it needs, as with the regions above. */
@@ -179,6 +182,72 @@ static void refusals(void)
     refuses("refused 6 before 2", (struct lengths){6, 65536, 8191, 8191}, SPC700_WRONG_REGISTERS);
     refuses("refused 1 before 2", (struct lengths){7, 65535, 8191, 8191}, SPC700_WRONG_MEMORY);
     refuses("refused 6 before 1 and 2", (struct lengths){8, 65537, 8193, 8193}, SPC700_WRONG_REGISTERS);
+}
+
+static int marked(const uint8_t *map, unsigned at) { return map[at / 8] >> at % 8 & 1; }
+
+/* A step at 0300 by an opcode of [d+X] or [d]+Y, with the operand FF and X and Y of 0, in page 0 or 1: it takes the low byte of its pointer
+ * from the last address of the page and the high one from `second`, and from no other address at which an edition could look. */
+static int points(uint8_t opcode, unsigned page, unsigned second)
+{
+    const unsigned first = page + 0xFF, others[] = {page, page + 0x100}, target = 0x4056;
+    start(0, 0, 0);
+    now.registers[5] = 0x03;
+    now.registers[6] = page ? 0x20 : 0;
+    now.memory[0x300] = opcode;
+    now.memory[0x301] = 0xFF;
+    now.memory[others[0]] = now.memory[others[1]] = 0x90;
+    now.memory[first] = target % 256;
+    now.memory[second] = target / 256;
+    const int stores = (opcode & 0xE0) == 0xC0;
+    int holds = step(RIGHT) == answer(0, 0, 1) && marked(now.reads, first) && marked(stores ? now.writes : now.reads, target);
+    for (int i = 0; i < 2; i++)
+        holds &= marked(now.reads, others[i]) == (others[i] == second);
+    return holds && (stores ? counts_are(4, 1, 0) : counts_are(5, 0, 0));
+}
+
+/* JMP [!12FF+X] at 0300: its second byte stands at 1300 whatever the edition. */
+static int jumps(void)
+{
+    start(0, 0, 0);
+    now.registers[5] = 0x03;
+    now.memory[0x300] = 0x1F;
+    now.memory[0x301] = 0xFF;
+    now.memory[0x302] = 0x12;
+    now.memory[0x12FF] = 0x34;
+    now.memory[0x1200] = 0x90;
+    now.memory[0x1300] = 0x56;
+    return run(RIGHT, 1) == answer(0, 0, 1) && now.registers[4] == 0x34 && now.registers[5] == 0x56 && !marked(now.reads, 0x1200);
+}
+
+/* Every opcode of the two modes whose pointer begins at the end of a page, in both editions; numbers that name none. */
+static void editions(void)
+{
+    int crates = 1, parts = 1;
+    for (unsigned opcode = 0x07; opcode < 0x100; opcode += 0x10) {
+        edition = SPC700_EDITION_CRATE;
+        crates &= points((uint8_t)opcode, 0x000, 0x100) && points((uint8_t)opcode, 0x100, 0x200);
+        edition = SPC700_EDITION_PART;
+        parts &= points((uint8_t)opcode, 0x000, 0x000) && points((uint8_t)opcode, 0x100, 0x100);
+    }
+    check("edition 1: all pointers at 00FF go on at 0100, those at 01FF at 0200", crates);
+    check("edition 2: all pointers at 00FF go on at 0000, those at 01FF at 0100", parts);
+    check("edition 2: JMP [!12FF+X] goes on at 1300", jumps());
+    edition = SPC700_EDITION_CRATE;
+    check("edition 1: JMP [!12FF+X] goes on at 1300", jumps());
+
+    edition = 0;
+    refuses("refused 9: edition 0", RIGHT, SPC700_NO_EDITION);
+    edition = 3;
+    refuses("refused 9: edition 3", RIGHT, SPC700_NO_EDITION);
+    edition = 255;
+    refuses("refused 9: edition 255", RIGHT, SPC700_NO_EDITION);
+    refuses("refused 6 before 9", (struct lengths){6, 65536, 8192, 8192}, SPC700_WRONG_REGISTERS);
+    refuses("refused 9 before 1", (struct lengths){7, 65535, 8192, 8192}, SPC700_NO_EDITION);
+    refuses("refused 9 before 2", (struct lengths){7, 65536, 8191, 8193}, SPC700_NO_EDITION);
+    edition = SPC700_EDITION_PART;
+    refuses("refused 1 in edition 2", (struct lengths){7, 65535, 8192, 8192}, SPC700_WRONG_MEMORY);
+    edition = SPC700_EDITION_CRATE;
 }
 
 /* Every pair of bytes that the two maps can have at one place, 8,192 pairs to a call, held to a count bit by bit. */
@@ -326,6 +395,7 @@ int main(void)
     steps();
     products();
     refusals();
+    editions();
     counts();
     texts();
     branches();

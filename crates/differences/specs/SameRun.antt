@@ -7,6 +7,7 @@ use mathlib.Core.List.{List}
 use lib.ListN.{length}
 use borrow.Author.Tests.{eq-eqb}
 use Rattle.marks.specs.Maps.{isMarked}
+use Rattle.editions.specs.declared.Edition.{Edition}
 use Rattle.processor.specs.declared.Processor.{Processor}
 use Rattle.runs.specs.Same.{Same}
 use Rattle.engine.specs.Provenance.{played, provenance}
@@ -16,16 +17,16 @@ use Rattle.differences.specs.Refused.{paired, nothing-refused, lengths-r
 use Rattle.differences.specs.Theorems.{untouched}
 use Rattle.differences.specs.declared.Differences.{Differences}
 
-module _ (budget : ℕ) (cpu : Processor) (image second : List ℕ) where
-  -- The read map that a run of the image, from clear maps, leaves.
+module _ (edition : Edition) (budget : ℕ) (cpu : Processor) (image second : List ℕ) where
+  -- The read map that a run of the image in an edition, from clear maps, leaves.
   abbrev pub readMap : List ℕ
-  readMap = played budget cpu image .left .reads
+  readMap = played edition budget cpu image .left .reads
 
-  -- If no stretch touches one of its marks, the second image gives the same run: the same registers, step count, stop and maps, and equal
+  -- If no stretch touches one of its marks, the second image gives the same run in that edition: the same registers, step count, stop and maps, and equal
   -- bytes wherever a step stored; at every other address each run leaves its own image's byte.
   pub same-run : length image ≡ 65536 → length second ≡ 65536 → touched (isMarked readMap) (stretchesOf image second) ≡ false
-      → Same image second (played budget cpu image) (played budget cpu second)
-  same-run size other none = provenance budget cpu image size second other (untouched image second (isMarked readMap) none)
+      → Same image second (played edition budget cpu image) (played edition budget cpu second)
+  same-run size other none = provenance edition budget cpu image size second other (untouched image second (isMarked readMap) none)
 
   -- What a comparison of the two answers that is lent this map, whatever row it is lent.
   abbrev pub compared : List ℕ → Differences
@@ -33,7 +34,7 @@ module _ (budget : ℕ) (cpu : Processor) (image second : List ℕ) where
 
   -- So if it is accepted and tells of no touch, the second image gives the same run.
   pub same-run-compared : (row : List ℕ) → compared row .refusal ≡ 0 → compared row .touched ≡ false
-      → Same image second (played budget cpu image) (played budget cpu second)
+      → Same image second (played edition budget cpu image) (played edition budget cpu second)
   same-run-compared row accepted none =
       let z = nothing-refused image second true readMap row accepted in
       let both = paired image second true readMap (lengths-right image second true readMap row z) in

@@ -9,32 +9,36 @@ use lib.ListN.{length}
 use borrow.Author.Tests.{eq-eqb, ne-eqb, eqb-true}
 use Rattle.memory.specs.World.{World, Sized}
 use Rattle.memory.specs.Access.{Outcome, Does}
+use Rattle.editions.specs.Editions.{isEdition, editionOf}
+use Rattle.editions.specs.declared.Edition.{Edition}
 use Rattle.processor.specs.declared.Processor.{Processor}
 use Rattle.instructions.specs.Step.{commitOf, branchOf}
 use Rattle.instructions.specs.declared.Stores.{Stores}
-use Rattle.runs.specs.Run.{Progress}
-use Rattle.engine.specs.Entry.{ran, accepted, answered, refusalOf}
+use Rattle.engine.specs.Entry.{ran, accepted, refusalOf, runOf, runAnswer}
 use Rattle.engine.specs.declared.Ran.{Ran}
 
 -- Where nothing is refused, the lengths are right.
-pub sized : (w : World) {r : ℕ} → r ≡ 0 → r ≡ refusalOf w → Sized w
+pub sized : (number : ℕ) (w : World) {r : ℕ} → r ≡ 0 → r ≡ refusalOf number w → Sized w
 unfolding refusalOf
-sized w z e =
-    go (eqb (length (w .memory)) 65536) (eqb (length (w .reads)) 8192) (eqb (length (w .writes)) 8192) refl refl refl (sym e ∙ z)
+sized number w z e =
+    go (isEdition number) (eqb (length (w .memory)) 65536) (eqb (length (w .reads)) 8192) (eqb (length (w .writes)) 8192)
+    refl refl refl (sym e ∙ z)
   where
-    go : (a b c : Bool) → eqb (length (w .memory)) 65536 ≡ a → eqb (length (w .reads)) 8192 ≡ b → eqb (length (w .writes)) 8192 ≡ c
-        → _≡_ {A = ℕ} (cond a (cond b (cond c 0 2) 2) 1) 0 → Sized w
-    go true true true m r s z = record { memory = eqb-true _ _ m; reads = eqb-true _ _ r; writes = eqb-true _ _ s }
-    go true true false m r s z = absurd (omega (arith, z))
-    go true false c m r s z = absurd (omega (arith, z))
-    go false b c m r s z = absurd (omega (arith, z))
+    go : (e a b c : Bool) → eqb (length (w .memory)) 65536 ≡ a → eqb (length (w .reads)) 8192 ≡ b → eqb (length (w .writes)) 8192 ≡ c
+        → _≡_ {A = ℕ} (cond e (cond a (cond b (cond c 0 2) 2) 1) 9) 0 → Sized w
+    go true true true true m r s z = record { memory = eqb-true _ _ m; reads = eqb-true _ _ r; writes = eqb-true _ _ s }
+    go true true true false m r s z = absurd (omega (arith, z))
+    go true true false c m r s z = absurd (omega (arith, z))
+    go true false b c m r s z = absurd (omega (arith, z))
+    go false a b c m r s z = absurd (omega (arith, z))
 
-module _ (cpu : Processor) (w : World) (o : Outcome World (Progress Processor)) {r : ℕ} (e : r ≡ refusalOf w) where
-  pub refuses : {a : Ran} → (r ≡ 0 → ⊥) → a ≡ ran r cpu 0 0 → record { result = a; left = w } ≡ answered cpu w o
+module _ (number budget : ℕ) (cpu : Processor) (w : World) {r : ℕ} (e : r ≡ refusalOf number w) where
+  pub refuses : {a : Ran} → (r ≡ 0 → ⊥) → a ≡ ran r cpu 0 0 → record { result = a; left = w } ≡ runAnswer number budget cpu w
   refuses n a = rw (a, ← e, ne-eqb _ _ n)
 
-  pub accepts : {q : Outcome World Ran} → r ≡ 0 → q ≡ accepted o → q ≡ answered cpu w o
-  accepts z a = rw (a, ← e, eq-eqb _ _ z)
+  pub accepts : {edition : Edition} {q : Outcome World Ran} → r ≡ 0 → edition ≡ editionOf number
+      → q ≡ accepted (runOf edition budget cpu w) → q ≡ runAnswer number budget cpu w
+  accepts z named a = rw (a, named, ← e, eq-eqb _ _ z)
 
 -- A phase goes by the case that is known: of what is to be stored, and of whether a branch is taken.
 pub commit-as : (s case : Stores) (cpu : Processor) {w : World} {o : Outcome World Processor}

@@ -1,4 +1,4 @@
--- The public step and run: refusals 1 and 2, and else what the definition gives.
+-- The public step and run: refusals 9, 1 and 2, and else what the definition gives.
 use Prim.Native.Nat.{ℕ}
 use mathlib.Core.Bool.{cond}
 use lib.Dec.{eqb}
@@ -6,6 +6,8 @@ use lib.ListN.{length}
 use Rattle.memory.specs.World.{World}
 use Rattle.memory.specs.Access.{Access, then, Outcome, perform}
 use Rattle.memory.specs.Access.Access.{done}
+use Rattle.editions.specs.Editions.{isEdition, editionOf}
+use Rattle.editions.specs.declared.Edition.{Edition}
 use Rattle.processor.specs.declared.Processor.{Processor}
 use Rattle.instructions.specs.Step.{stepOf}
 use Rattle.runs.specs.Run.{Progress, progress, run}
@@ -23,28 +25,31 @@ refused refusal cpu w = record { result = ran refusal cpu 0 0; left = w }
 abbrev pub accepted : Outcome World (Progress Processor) → Outcome World Ran
 accepted o = record { result = ran 0 (o .result .regs) (o .result .steps) (o .result .stop); left = o .left }
 
--- 1 exactly if memory is not 65,536 bytes; then 2 exactly if a map is not 8,192 bytes; else 0.
-unfoldable pub refusalOf : World → ℕ
-refusalOf w =
-    cond (eqb (length (w .memory)) 65536)
+-- 9 exactly if the number of the edition is neither 1 nor 2; then 1 exactly if memory is not 65,536 bytes; then 2 exactly if a map is not
+-- 8,192 bytes; else 0.
+unfoldable pub refusalOf : ℕ → World → ℕ
+refusalOf number w =
+    cond (isEdition number)
+    (cond (eqb (length (w .memory)) 65536)
     (cond (eqb (length (w .reads)) 8192) (cond (eqb (length (w .writes)) 8192) 0 2) 2)
-    1
+    1)
+    9
 
 -- What a call answers, and what it leaves, where the definition gives `o`.
-abbrev pub answered : Processor → World → Outcome World (Progress Processor) → Outcome World Ran
-answered cpu w o = cond (eqb (refusalOf w) 0) (accepted o) (refused (refusalOf w) cpu w)
+abbrev pub answered : ℕ → Processor → World → Outcome World (Progress Processor) → Outcome World Ran
+answered number cpu w o = cond (eqb (refusalOf number w) 0) (accepted o) (refused (refusalOf number w) cpu w)
 
--- One step, counted: SLEEP and STOP count, too.
-unfoldable pub countedStep : Processor → Access (Progress Processor)
-countedStep cpu = then (stepOf cpu) (λ s. done (progress (s .cpu) 1 (s .stop)))
+-- One step in an edition, counted: SLEEP and STOP count, too.
+unfoldable pub countedStep : Edition → Processor → Access (Progress Processor)
+countedStep edition cpu = then (stepOf edition cpu) (λ s. done (progress (s .cpu) 1 (s .stop)))
 
--- A run of such steps: its stop is 1 or 2 where SLEEP or STOP was the last of them, and 0 where the budget ended it.
-abbrev pub runOf : ℕ → Processor → World → Outcome World (Progress Processor)
-runOf = run (taken countedStep)
+-- A run of such steps, all in one edition: its stop is 1 or 2 where SLEEP or STOP was the last of them, and 0 where the budget ended it.
+abbrev pub runOf : Edition → ℕ → Processor → World → Outcome World (Progress Processor)
+runOf edition = run (taken (countedStep edition))
 
--- what the public step and the public run answer, and what they leave
-abbrev pub stepAnswer : Processor → World → Outcome World Ran
-stepAnswer cpu w = answered cpu w (perform (countedStep cpu) w)
+-- What the public step and the public run answer, and what they leave. They are given the number of the edition.
+abbrev pub stepAnswer : ℕ → Processor → World → Outcome World Ran
+stepAnswer number cpu w = answered number cpu w (perform (countedStep (editionOf number) cpu) w)
 
-abbrev pub runAnswer : ℕ → Processor → World → Outcome World Ran
-runAnswer budget cpu w = answered cpu w (runOf budget cpu w)
+abbrev pub runAnswer : ℕ → ℕ → Processor → World → Outcome World Ran
+runAnswer number budget cpu w = answered number cpu w (runOf (editionOf number) budget cpu w)

@@ -4,6 +4,7 @@ use Prim.Native.Nat.{ℕ}
 use Rattle.memory.specs.World.{World}
 use Rattle.memory.specs.Access.{perform}
 use Rattle.memory.specs.Inside.{Bytes, Inside}
+use Rattle.editions.specs.declared.Edition.{Edition}
 use Rattle.processor.specs.declared.Processor.{Processor}
 use Rattle.instructions.specs.Inside.{Fits}
 use Rattle.instructions.specs.Step.{stepOf}
@@ -15,22 +16,23 @@ use Rattle.runs.specs.Trace.{InMemory, trace}
 use Rattle.runs.proofs.Inside as runs
 use Rattle.engine.specs.Entry.{countedStep}
 
--- Whatever bytes it reads, a step reads and stores only addresses below 65,536.
-pub step-inside : (cpu : Processor) → Fits cpu → Inside (stepOf cpu)
-step-inside cpu fits = inside (step-within cpu fits)
+module _ (edition : Edition) where
+  -- Whatever bytes it reads, a step reads and stores only addresses below 65,536.
+  pub step-inside : (cpu : Processor) → Fits cpu → Inside (stepOf edition cpu)
+  step-inside cpu fits = inside (step-within edition cpu fits)
 
--- On a memory of bytes it leaves one, and registers in their widths.
-pub step-widths : (cpu : Processor) (w : World) → Fits cpu → Bytes w
-    → Fits (perform (stepOf cpu) w .result .cpu) × Bytes (perform (stepOf cpu) w .left)
-step-widths cpu w fits bytes = performed (step-within cpu fits) w bytes
+  -- On a memory of bytes it leaves one, and registers in their widths.
+  pub step-widths : (cpu : Processor) (w : World) → Fits cpu → Bytes w
+      → Fits (perform (stepOf edition cpu) w .result .cpu) × Bytes (perform (stepOf edition cpu) w .left)
+  step-widths cpu w fits bytes = performed (step-within edition cpu fits) w bytes
 
-counted-within : (cpu : Processor) → Fits cpu → Within (λ (p : Progress Processor). Fits (p .regs)) (countedStep cpu)
-unfolding countedStep
-counted-within cpu fits = follow (step-within cpu fits) (λ s next. ends next)
+  counted-within : (cpu : Processor) → Fits cpu → Within (λ (p : Progress Processor). Fits (p .regs)) (countedStep edition cpu)
+  unfolding countedStep
+  counted-within cpu fits = follow (step-within edition cpu fits) (λ s next. ends next)
 
--- So all accesses of a run are below 65,536.
-pub run-inside : (budget : ℕ) (cpu : Processor) (w : World) → Fits cpu → Bytes w → InMemory (trace countedStep budget cpu w)
-run-inside =
-    runs.run-inside countedStep Fits
-    (λ cpu fits. inside (counted-within cpu fits))
-    (λ cpu w fits bytes. performed (counted-within cpu fits) w bytes)
+  -- So all accesses of a run are below 65,536.
+  pub run-inside : (budget : ℕ) (cpu : Processor) (w : World) → Fits cpu → Bytes w → InMemory (trace (countedStep edition) budget cpu w)
+  run-inside =
+      runs.run-inside (countedStep edition) Fits
+      (λ cpu fits. inside (counted-within cpu fits))
+      (λ cpu w fits bytes. performed (counted-within cpu fits) w bytes)

@@ -3,3 +3,4 @@ pub mod Theorems
 pub mod Provenance
 pub mod Inside
 pub mod Stops
+pub mod Editions

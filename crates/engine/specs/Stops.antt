@@ -7,6 +7,7 @@ use Rattle.laws.specs.Every.{every-at}
 use Rattle.memory.specs.World.{World}
 use Rattle.memory.specs.Access.{Outcome, perform}
 use Rattle.memory.proofs.Laws.{perform-then}
+use Rattle.editions.specs.declared.Edition.{Edition}
 use Rattle.processor.specs.declared.Processor.{Processor}
 use Rattle.instructions.specs.Rows.{row, rows, rowOf}
 use Rattle.instructions.specs.Rows.Operation.{nop}
@@ -31,10 +32,10 @@ finish-stop : (e : Effect) (w : World) → perform (finishOf e) w .result .stop 
 unfolding finishOf perform
 finish-stop e w = rw (perform-then, perform-then)
 
-step-stop : (cpu : Processor) (w : World) → perform (countedStep cpu) w .result .stop ≤ 2
+step-stop : (edition : Edition) (cpu : Processor) (w : World) → perform (countedStep edition cpu) w .result .stop ≤ 2
 unfolding countedStep stepOf perform
-step-stop cpu w =
-    let b = perform (beginOf cpu) w in
+step-stop edition cpu w =
+    let b = perform (beginOf edition cpu) w in
     rw (perform-then, perform-then, finish-stop (madeOf (b .result)) (b .left)) (row-stop (b .result .opcode) (b .result .operands))
 
 -- ---- a run
@@ -52,5 +53,5 @@ module _ {Regs W : Type 0} (attempt : Regs → W → Outcome W (Progress Regs))
       go zero o q h g = g
       go (suc i) o q h g = h
 
-pub run-stop : (budget : ℕ) (cpu : Processor) (w : World) → runOf budget cpu w .result .stop ≤ 2
-run-stop = stop-within (taken countedStep) step-stop
+pub run-stop : (edition : Edition) (budget : ℕ) (cpu : Processor) (w : World) → runOf edition budget cpu w .result .stop ≤ 2
+run-stop edition = stop-within (taken (countedStep edition)) (step-stop edition)

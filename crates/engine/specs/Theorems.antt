@@ -6,6 +6,8 @@ use Rattle.memory.specs.World.{World, Sized}
 use Rattle.memory.specs.Access.{perform}
 use Rattle.memory.specs.Theorems.{Kept, marks-stay, kept-itself, kept-trans}
 use Rattle.memory.proofs.Laws.{perform-then}
+use Rattle.editions.specs.Editions.{editionOf}
+use Rattle.editions.specs.declared.Edition.{Edition}
 use Rattle.processor.specs.declared.Processor.{Processor}
 use Rattle.instructions.specs.Order.{ReadsFirst, afterOpcode}
 use Rattle.instructions.proofs.Order as order
@@ -13,30 +15,32 @@ use Rattle.runs.specs.Trace.{taken}
 use Rattle.runs.proofs.Run as runs
 use Rattle.engine.specs.Entry.{answered, countedStep, runOf, stepAnswer, runAnswer}
 
--- An accepted step answers that one step was taken.
-pub one-step : (cpu : Processor) (w : World) → perform (countedStep cpu) w .result .steps ≡ 1
-unfolding countedStep perform
-one-step cpu w = rw perform-then
+-- In either edition.
+module _ (edition : Edition) where
+  -- An accepted step answers that one step was taken.
+  pub one-step : (cpu : Processor) (w : World) → perform (countedStep edition cpu) w .result .steps ≡ 1
+  unfolding countedStep perform
+  one-step cpu w = rw perform-then
 
--- A step answers what a run of budget 1 answers, refused or not, and leaves the same.
-pub step-is-run-of-one : (cpu : Processor) (w : World) → stepAnswer cpu w ≡ runAnswer 1 cpu w
-step-is-run-of-one cpu w = ap (answered cpu w) (sym (runs.run-one (taken countedStep) cpu w))
+  -- A run takes no more steps than its budget, and all of it where it answers stop 0.
+  pub within-budget : (budget : ℕ) (cpu : Processor) (w : World) → runOf edition budget cpu w .result .steps ≤ budget
+  within-budget = runs.within-budget (taken (countedStep edition)) one-step
 
--- A run takes no more steps than its budget, and all of it where it answers stop 0.
-pub within-budget : (budget : ℕ) (cpu : Processor) (w : World) → runOf budget cpu w .result .steps ≤ budget
-within-budget = runs.within-budget (taken countedStep) one-step
+  pub budget-spent : (budget : ℕ) (cpu : Processor) (w : World) → runOf edition budget cpu w .result .stop ≡ 0 → runOf edition budget cpu w .result .steps ≡ budget
+  budget-spent = runs.budget-spent (taken (countedStep edition)) one-step
 
-pub budget-spent : (budget : ℕ) (cpu : Processor) (w : World) → runOf budget cpu w .result .stop ≡ 0 → runOf budget cpu w .result .steps ≡ budget
-budget-spent = runs.budget-spent (taken countedStep) one-step
+  -- A step leaves memory and maps their lengths, and clears no mark; so does a run.
+  pub step-keeps : (cpu : Processor) (w : World) → Sized w → Kept w (perform (countedStep edition cpu) w .left)
+  step-keeps cpu w s = marks-stay (countedStep edition cpu) w s
 
--- A step leaves memory and maps their lengths, and clears no mark; so does a run.
-pub step-keeps : (cpu : Processor) (w : World) → Sized w → Kept w (perform (countedStep cpu) w .left)
-step-keeps cpu w s = marks-stay (countedStep cpu) w s
+  pub run-keeps : (budget : ℕ) (cpu : Processor) (w : World) → Sized w → Kept w (runOf edition budget cpu w .left)
+  run-keeps =
+      runs.run-keeps (taken (countedStep edition)) (λ v w. Sized v → Kept v w) kept-itself (λ u v w f g s. kept-trans (f s) (g (f s .sized))) step-keeps
 
-pub run-keeps : (budget : ℕ) (cpu : Processor) (w : World) → Sized w → Kept w (runOf budget cpu w .left)
-run-keeps =
-    runs.run-keeps (taken countedStep) (λ v w. Sized v → Kept v w) kept-itself (λ u v w f g s. kept-trans (f s) (g (f s .sized))) step-keeps
+  -- Whatever the opcode, but for DBNZ d,rel, what follows its fetch reads all that it reads before it stores anything.
+  pub reads-first : (cpu : Processor) (opcode : ℕ) → opcode < 256 → (opcode ≡ 0x6E → ⊥) → ReadsFirst (afterOpcode edition cpu opcode)
+  reads-first = order.reads-first edition
 
--- Whatever the opcode, but for DBNZ d,rel, what follows its fetch reads all that it reads before it stores anything.
-pub reads-first : (cpu : Processor) (opcode : ℕ) → opcode < 256 → (opcode ≡ 0x6E → ⊥) → ReadsFirst (afterOpcode cpu opcode)
-reads-first = order.reads-first
+-- A step answers what a run of budget 1 answers, refused or not, whatever number it is given for an edition, and leaves the same.
+pub step-is-run-of-one : (number : ℕ) (cpu : Processor) (w : World) → stepAnswer number cpu w ≡ runAnswer number 1 cpu w
+step-is-run-of-one number cpu w = ap (answered number cpu w) (sym (runs.run-one (taken (countedStep (editionOf number))) cpu w))

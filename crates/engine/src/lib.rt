@@ -4,6 +4,7 @@ mod phases;
 ghost use mathlib.Core.Path.{_≡_};
 ghost use Rattle.memory.specs.Contracts.{before, Ready, Yields};
 ghost use Rattle.engine.specs.Entry.{ran, accepted, refusalOf, runOf, stepAnswer, runAnswer};
+use editions::Edition;
 use processor::Processor;
 
 // What a step or a run answers. Refused: `refusal` is its number, the record is as given, the other numbers are 0.
@@ -25,10 +26,13 @@ fn refused(refusal: u8, cpu: Processor) -> Ran
     }
 }
 
-// The first test that the lengths of memory and maps do not pass, or 0.
-fn refusal_of(memory: &[u8], reads: &[u8], writes: &[u8]) -> u8
-    ensures { λ r. ⌜ r ≡ refusalOf (before memory reads writes) ⌝ }
+// The number of the first test that the edition and the lengths of memory and maps do not pass, or 0.
+fn refusal_of(edition: u8, memory: &[u8], reads: &[u8], writes: &[u8]) -> u8
+    ensures { λ r. ⌜ r ≡ refusalOf edition (before memory reads writes) ⌝ }
 {
+    if !editions::is_edition(edition) {
+        return 9;
+    }
     if memory.len() != 65536 {
         return 1;
     }
@@ -44,19 +48,20 @@ fn refusal_of(memory: &[u8], reads: &[u8], writes: &[u8]) -> u8
 // Steps until the budget is spent or one of them stops, on memory and maps whose lengths are known.
 fn take_steps(
     cpu: Processor,
+    edition: Edition,
     memory: &mut [u8],
     reads: &mut [u8],
     writes: &mut [u8],
     budget: u32,
 ) -> Ran
     requires { ⌜ Ready memory reads writes ⌝ }
-    ensures { λ r. ⌜ Yields (λ w. accepted (runOf budget cpu w)) memory reads writes r ⌝ }
+    ensures { λ r. ⌜ Yields (λ w. accepted (runOf edition budget cpu w)) memory reads writes r ⌝ }
 {
     let mut next = cpu;
     let mut left: u32 = budget;
     let mut stop: u8 = 0;
-    while stop == 0 && left > 0 {
-        let stepped = phases::instruction(next, memory, reads, writes);
+    while left > 0 && stop == 0 {
+        let stepped = phases::instruction(next, edition, memory, reads, writes);
         next = stepped.cpu;
         stop = stepped.stop;
         left = left - 1;
@@ -70,28 +75,36 @@ fn take_steps(
     }
 }
 
-// A run: as many steps as the budget has (stop 0), or fewer where SLEEP (stop 1) or STOP (stop 2) ends it. Refusals: 1 memory is not
-// 65,536 bytes, 2 a map is not 8,192 bytes.
+// A run in one edition, given by its number: as many steps as the budget has (stop 0), or fewer where SLEEP (stop 1) or STOP (stop 2) ends
+// it. Refusals: 9 the edition is neither 1 nor 2, 1 memory is not 65,536 bytes, 2 a map is not 8,192 bytes.
 pub fn run(
     cpu: Processor,
+    edition: u8,
     memory: &mut [u8],
     reads: &mut [u8],
     writes: &mut [u8],
     budget: u32,
 ) -> Ran
-    ensures { λ r. ⌜ Yields (runAnswer budget cpu) memory reads writes r ⌝ }
+    ensures { λ r. ⌜ Yields (runAnswer edition budget cpu) memory reads writes r ⌝ }
 {
-    let refusal = refusal_of(memory, reads, writes);
+    let refusal = refusal_of(edition, memory, reads, writes);
     if refusal != 0 {
         return refused(refusal, cpu);
     }
-    take_steps(cpu, memory, reads, writes, budget)
+    let edition = editions::edition_of(edition);
+    take_steps(cpu, edition, memory, reads, writes, budget)
 }
 
 // One step: a run of budget 1, so that the step loop is the one caller of `instruction`, which is then compiled into it
 // (docs/SPEED.md). Refusals as for a run.
-pub fn step(cpu: Processor, memory: &mut [u8], reads: &mut [u8], writes: &mut [u8]) -> Ran
-    ensures { λ r. ⌜ Yields (stepAnswer cpu) memory reads writes r ⌝ }
+pub fn step(
+    cpu: Processor,
+    edition: u8,
+    memory: &mut [u8],
+    reads: &mut [u8],
+    writes: &mut [u8],
+) -> Ran
+    ensures { λ r. ⌜ Yields (stepAnswer edition cpu) memory reads writes r ⌝ }
 {
-    run(cpu, memory, reads, writes, 1)
+    run(cpu, edition, memory, reads, writes, 1)
 }

@@ -2,6 +2,7 @@
 // taken displacement.
 ghost use Rattle.memory.specs.Contracts.{Ready, Performs};
 ghost use Rattle.instructions.specs.Step.{beginOf, commitOf, branchOf, finishOf, stepOf};
+use editions::Edition;
 use instructions::Begun;
 use instructions::Effect;
 use instructions::Stepped;
@@ -9,13 +10,19 @@ use instructions::Stores;
 use processor::Processor;
 
 // The opcode, and what its instruction reads before it stores.
-fn begin(cpu: Processor, memory: &[u8], reads: &mut [u8], writes: &[u8]) -> Begun
+fn begin(
+    cpu: Processor,
+    edition: Edition,
+    memory: &[u8],
+    reads: &mut [u8],
+    writes: &[u8],
+) -> Begun
     requires { ⌜ Ready memory reads writes ⌝ }
-    ensures { λ r. ⌜ Performs (beginOf cpu) memory reads writes r ⌝ }
+    ensures { λ r. ⌜ Performs (beginOf edition cpu) memory reads writes r ⌝ }
 {
     let fetched = modes::fetch_u8(cpu, memory, reads, writes);
     let next = fetched.cpu;
-    let operands = gather::gather(next, memory, reads, writes, fetched.byte);
+    let operands = gather::gather(next, edition, memory, reads, writes, fetched.byte);
     Begun {
         opcode: fetched.byte,
         operands,
@@ -97,14 +104,15 @@ fn finish(made: Effect, memory: &mut [u8], reads: &mut [u8], writes: &mut [u8]) 
 // A whole instruction.
 pub fn instruction(
     cpu: Processor,
+    edition: Edition,
     memory: &mut [u8],
     reads: &mut [u8],
     writes: &mut [u8],
 ) -> Stepped
     requires { ⌜ Ready memory reads writes ⌝ }
-    ensures { λ r. ⌜ Performs (stepOf cpu) memory reads writes r ⌝ }
+    ensures { λ r. ⌜ Performs (stepOf edition cpu) memory reads writes r ⌝ }
 {
-    let begun = begin(cpu, memory, reads, writes);
+    let begun = begin(cpu, edition, memory, reads, writes);
     let operands = begun.operands;
     let made = effects::effect_of(begun.opcode, operands);
     finish(made, memory, reads, writes)

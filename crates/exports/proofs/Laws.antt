@@ -11,6 +11,7 @@ use lib.ListN.{length}
 use borrow.Author.Tests.{eq-eqb, ne-eqb}
 use Rattle.memory.specs.World.{World}
 use Rattle.memory.specs.Access.{Outcome, outcome}
+use Rattle.editions.specs.Editions.{editionOf}
 use Rattle.processor.specs.declared.Processor.{Processor}
 use Rattle.state.specs.Registers.{registersOf}
 use Rattle.runs.specs.Run.{Progress}
@@ -20,27 +21,27 @@ use Rattle.laws.specs.Filled.{Filled, filled}
 use Rattle.exports.specs.Calls.{packed, numbered, called, handedBack, Handed, runCall}
 
 -- The engine leaves memory and maps as they were wherever it refuses.
-left-alone : (cpu : Processor) (w : World) (o : Outcome World (Progress Processor)) {q : Outcome World Ran}
-    → q ≡ answered cpu w o → (q .result .refusal ≡ 0 → ⊥) → q .left ≡ w
-left-alone cpu w o e n = rw e (go (eqb (refusalOf w) 0) (rw e at n))
+left-alone : (number : ℕ) (cpu : Processor) (w : World) (o : Outcome World (Progress Processor)) {q : Outcome World Ran}
+    → q ≡ answered number cpu w o → (q .result .refusal ≡ 0 → ⊥) → q .left ≡ w
+left-alone number cpu w o e n = rw e (go (eqb (refusalOf number w) 0) (rw e at n))
   where
     answer : Bool → Outcome World Ran
-    answer b = cond b (accepted o) (refused (refusalOf w) cpu w)
+    answer b = cond b (accepted o) (refused (refusalOf number w) cpu w)
 
     go : (b : Bool) → (answer b .result .refusal ≡ 0 → ⊥) → answer b .left ≡ w
     go true n = absurd (n refl)
     go false n = refl
 
-module _ (budget : ℕ) (registers : List ℕ) (w : World) where
-  pub not-seven : {r : ℕ} → (length registers ≡ 7 → ⊥) → r ≡ packed 6 0 0 → called r registers w ≡ runCall budget registers w
+module _ (number budget : ℕ) (registers : List ℕ) (w : World) where
+  pub not-seven : {r : ℕ} → (length registers ≡ 7 → ⊥) → r ≡ packed 6 0 0 → called r registers w ≡ runCall number budget registers w
   not-seven n e = rw (e, ne-eqb _ _ n)
 
   -- What is handed back with memory and maps as they are is right also where they were changed before, as only an accepted call does.
   pub seven : {cpu : Processor} {ran : Ran} {left : World} {r : ℕ} {after : List ℕ} → length registers ≡ 7
-      → Handed ran registers after r → outcome ran left ≡ runAnswer budget cpu w → cpu ≡ registersOf registers
-      → called r after left ≡ runCall budget registers w
+      → Handed ran registers after r → outcome ran left ≡ runAnswer number budget cpu w → cpu ≡ registersOf registers
+      → called r after left ≡ runCall number budget registers w
   seven {cpu} {ran} {left} {r} {after} s back e c =
-      rw (eq-eqb _ _ s, ← c, ← e) (go (left-alone cpu w (runOf budget cpu w) e) (ℕ-discrete (ran .refusal) 0))
+      rw (eq-eqb _ _ s, ← c, ← e) (go (left-alone number cpu w (runOf (editionOf number) budget cpu w) e) (ℕ-discrete (ran .refusal) 0))
     where
       go : ((ran .refusal ≡ 0 → ⊥) → left ≡ w) → Dec (ran .refusal ≡ 0) → called r after left ≡ handedBack registers w (outcome ran left)
       go same (yes z) = rw (eq-eqb _ _ z) (rw (eq-eqb _ _ z) at (back .whatever left))

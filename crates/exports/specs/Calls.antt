@@ -61,12 +61,12 @@ onBytes answer registers w =
     (handedBack registers w (answer (registersOf registers) w))
     (called (packed 6 0 0) registers w)
 
--- what the engine's step and run answer, at the bytes
-abbrev pub stepCall : List ℕ → World → Called
-stepCall = onBytes stepAnswer
+-- what the engine's step and run answer to the number of an edition, at the bytes
+abbrev pub stepCall : ℕ → List ℕ → World → Called
+stepCall edition = onBytes (stepAnswer edition)
 
-abbrev pub runCall : ℕ → List ℕ → World → Called
-runCall budget = onBytes (runAnswer budget)
+abbrev pub runCall : ℕ → ℕ → List ℕ → World → Called
+runCall edition budget = onBytes (runAnswer edition budget)
 
 -- What a call promises: it answers and leaves what `call` makes of the registers' bytes, memory and maps.
 abbrev pub CallYields : (List ℕ → World → Called) → Lent → Lent → Lent → Lent → ℕ → Type 0

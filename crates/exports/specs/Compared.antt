@@ -7,6 +7,7 @@ use mathlib.Core.List.{List}
 use native.Mathlib.Decide.{ℕ-discrete}
 use native.Mathlib.Omega.{arith}
 use borrow.Author.Tests.{eq-eqb, ne-eqb}
+use Rattle.editions.specs.declared.Edition.{Edition}
 use Rattle.processor.specs.declared.Processor.{Processor}
 use Rattle.runs.specs.Same.{Same}
 use Rattle.engine.specs.Provenance.{played}
@@ -33,22 +34,22 @@ no-touch : (b : Bool) → _≡_ {A = ℕ} (cond b 1 0) 0 → b ≡ false
 no-touch true e = absurd (omega arith)
 no-touch false e = refl
 
-module _ (budget : ℕ) (cpu : Processor) (image second row : List ℕ) (has-map : ℕ) where
+module _ (edition : Edition) (budget : ℕ) (cpu : Processor) (image second row : List ℕ) (has-map : ℕ) where
   -- Two images compared, with the read map that a run of the first, from clear maps, leaves.
   abbrev pub number : ℕ
-  number = differencesCall image second has-map (played budget cpu image .left .reads) row .answer
+  number = differencesCall image second has-map (played edition budget cpu image .left .reads) row .answer
 
   -- With a sign other than 0, and refusal and stop as include/spc700.h takes them out of the number.
   pub same-run-told : (has-map ≡ 0 → ⊥) → number / 2 ^ 40 ≡ 0 → number / 2 ^ 32 % 2 ^ 8 ≡ 0
-      → Same image second (played budget cpu image) (played budget cpu second)
+      → Same image second (played edition budget cpu image) (played edition budget cpu second)
   same-run-told given no-refusal no-stop =
-      let map = played budget cpu image .left .reads in
+      let map = played edition budget cpu image .left .reads in
       let d = differencesOf image second true map row .result in
       let number-is : number ≡ differencesNumber d = rw (ne-eqb _ _ given) in
       let word : d .stretches < 2 ^ 32 = omega (arith, few-told image second true map row) in
       let byte = a-byte (d .touched) in
       let refusal = refusal-part (d .refusal) (cond (d .touched) 1 0) (d .stretches) byte word in
       let stop = stop-part (d .refusal) (cond (d .touched) 1 0) (d .stretches) byte word in
-      same-run-compared budget cpu image second row
+      same-run-compared edition budget cpu image second row
       (sym refusal ∙ rw number-is at no-refusal)
       (no-touch (d .touched) (sym stop ∙ rw number-is at no-stop))

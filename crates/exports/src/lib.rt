@@ -32,21 +32,23 @@ fn hand_back(registers: &mut [u8], ran: Ran) -> u64
     packed(0, ran.stop, ran.steps)
 }
 
-// One step. Refusals: 6 registers that are not seven bytes, 1 memory that is not 65,536 bytes, 2 a map that is not 8,192 bytes.
+// One step in an edition, which is a number. Refusals: 6 registers that are not seven bytes, 9 an edition that is neither 1 nor 2, 1 memory
+// that is not 65,536 bytes, 2 a map that is not 8,192 bytes.
 #[no_mangle]
 pub extern "C" fn spc700_step(
     registers: &mut [u8],
+    edition: u8,
     memory: &mut [u8],
     reads: &mut [u8],
     writes: &mut [u8],
 ) -> u64
-    ensures { λ r. ⌜ CallYields stepCall registers memory reads writes r ⌝ }
+    ensures { λ r. ⌜ CallYields (stepCall edition) registers memory reads writes r ⌝ }
 {
     if registers.len() != 7 {
         return packed(6, 0, 0);
     }
     let cpu = state::registers(registers);
-    let ran = engine::step(cpu, memory, reads, writes);
+    let ran = engine::step(cpu, edition, memory, reads, writes);
     hand_back(registers, ran)
 }
 
@@ -54,18 +56,19 @@ pub extern "C" fn spc700_step(
 #[no_mangle]
 pub extern "C" fn spc700_run(
     registers: &mut [u8],
+    edition: u8,
     budget: u32,
     memory: &mut [u8],
     reads: &mut [u8],
     writes: &mut [u8],
 ) -> u64
-    ensures { λ r. ⌜ CallYields (runCall budget) registers memory reads writes r ⌝ }
+    ensures { λ r. ⌜ CallYields (runCall edition budget) registers memory reads writes r ⌝ }
 {
     if registers.len() != 7 {
         return packed(6, 0, 0);
     }
     let cpu = state::registers(registers);
-    let ran = engine::run(cpu, memory, reads, writes, budget);
+    let ran = engine::run(cpu, edition, memory, reads, writes, budget);
     hand_back(registers, ran)
 }
 

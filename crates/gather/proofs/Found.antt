@@ -17,39 +17,39 @@ use Rattle.gather.proofs.Table.{Place}
 
 unfoldable pub inDirect : Place
 unfolding gatherOf then
-inDirect = record { find = λ cpu. mode.direct 0 cpu; to = toDirect; from = direct; stores = λ k cpu. refl; loads = λ k cpu. refl }
+inDirect = record { find = λ edition cpu. mode.direct 0 cpu; to = toDirect; from = direct; stores = λ edition k cpu. refl; loads = λ edition k cpu. refl }
 
 unfoldable pub inDirectX : Place
 unfolding gatherOf then
-inDirectX = record { find = λ cpu. mode.direct (cpu .x) cpu; to = toDirectX; from = directX; stores = λ k cpu. refl; loads = λ k cpu. refl }
+inDirectX = record { find = λ edition cpu. mode.direct (cpu .x) cpu; to = toDirectX; from = directX; stores = λ edition k cpu. refl; loads = λ edition k cpu. refl }
 
 unfoldable pub inDirectY : Place
 unfolding gatherOf then
-inDirectY = record { find = λ cpu. mode.direct (cpu .y) cpu; to = toDirectY; from = directY; stores = λ k cpu. refl; loads = λ k cpu. refl }
+inDirectY = record { find = λ edition cpu. mode.direct (cpu .y) cpu; to = toDirectY; from = directY; stores = λ edition k cpu. refl; loads = λ edition k cpu. refl }
 
 unfoldable pub atAbsolute : Place
 unfolding gatherOf then
-atAbsolute = record { find = λ cpu. mode.absolute 0 cpu; to = toAbsolute; from = absolute; stores = λ k cpu. refl; loads = λ k cpu. refl }
+atAbsolute = record { find = λ edition cpu. mode.absolute 0 cpu; to = toAbsolute; from = absolute; stores = λ edition k cpu. refl; loads = λ edition k cpu. refl }
 
 unfoldable pub atAbsoluteX : Place
 unfolding gatherOf then
-atAbsoluteX = record { find = λ cpu. mode.absolute (cpu .x) cpu; to = toAbsoluteX; from = absoluteX; stores = λ k cpu. refl; loads = λ k cpu. refl }
+atAbsoluteX = record { find = λ edition cpu. mode.absolute (cpu .x) cpu; to = toAbsoluteX; from = absoluteX; stores = λ edition k cpu. refl; loads = λ edition k cpu. refl }
 
 unfoldable pub atAbsoluteY : Place
 unfolding gatherOf then
-atAbsoluteY = record { find = λ cpu. mode.absolute (cpu .y) cpu; to = toAbsoluteY; from = absoluteY; stores = λ k cpu. refl; loads = λ k cpu. refl }
+atAbsoluteY = record { find = λ edition cpu. mode.absolute (cpu .y) cpu; to = toAbsoluteY; from = absoluteY; stores = λ edition k cpu. refl; loads = λ edition k cpu. refl }
 
 unfoldable pub atPointerX : Place
 unfolding gatherOf then
-atPointerX = record { find = λ cpu. mode.pointerX cpu; to = toPointerX; from = pointerX; stores = λ k cpu. refl; loads = λ k cpu. refl }
+atPointerX = record { find = mode.pointerX; to = toPointerX; from = pointerX; stores = λ edition k cpu. refl; loads = λ edition k cpu. refl }
 
 unfoldable pub atPointerY : Place
 unfolding gatherOf then
-atPointerY = record { find = λ cpu. mode.pointerY cpu; to = toPointerY; from = pointerY; stores = λ k cpu. refl; loads = λ k cpu. refl }
+atPointerY = record { find = mode.pointerY; to = toPointerY; from = pointerY; stores = λ edition k cpu. refl; loads = λ edition k cpu. refl }
 
 unfoldable pub atRegisterX : Place
 unfolding gatherOf then
-atRegisterX = record { find = λ cpu. done (mode.indirect (cpu .x) cpu); to = toX; from = atX; stores = λ k cpu. refl; loads = λ k cpu. refl }
+atRegisterX = record { find = λ edition cpu. done (mode.indirect (cpu .x) cpu); to = toX; from = atX; stores = λ edition k cpu. refl; loads = λ edition k cpu. refl }
 
 -- ---- an address that is known by an equation
 

@@ -18,6 +18,7 @@ use Rattle.laws.specs.Table.{tableOf, where-same}
 use Rattle.memory.specs.World.{World}
 use Rattle.memory.specs.Access.{Access, Outcome, Does, then}
 use Rattle.processor.specs.declared.Processor.{Processor}
+use Rattle.editions.specs.declared.Edition.{Edition}
 use Rattle.modes.specs.declared.Addressed.{Addressed}
 use Rattle.instructions.specs.Rows.{Mode, rowOf}
 use Rattle.instructions.specs.Rows.Mode.{implied}
@@ -33,9 +34,9 @@ has-mode : (p : ℕ → Bool) (m : ℕ → Mode) → AllHave p m → {k : ℕ} �
 has-mode p m e {k} h t = where-same 256 p implied (λ k. rowOf k .mode) m e k (h .fits) t
 
 -- what was read by a row's mode was read by the row
-by-mode : {m : Mode} (k : ℕ) (cpu : Processor) {w : World} {o : Outcome World Operands}
-    → rowOf k .mode ≡ m → Does (gatherOf m k cpu) w o → Does (gatherOf (rowOf k .mode) k cpu) w o
-by-mode k cpu e does = rw e does
+by-mode : {m : Mode} (edition : Edition) (k : ℕ) (cpu : Processor) {w : World} {o : Outcome World Operands}
+    → rowOf k .mode ≡ m → Does (gatherOf edition m k cpu) w o → Does (gatherOf edition (rowOf k .mode) k cpu) w o
+by-mode edition k cpu e does = rw e does
 
 -- an opcode of a column
 abbrev pub inColumn : ℕ → ℕ → Bool
@@ -53,32 +54,32 @@ left-over columns c t {k} h none = eqb→eq _ _ (none-then 256 (inColumn c) (λ 
 
 -- a whole column
 pub column : (c : ℕ) (m : Mode) → AllHave (inColumn c) (λ k. m)
-    → (k : ℕ) (cpu : Processor) {w : World} {o : Outcome World Operands} → Fits w8 k → bitAnd k 31 ≡ c
-    → Does (gatherOf m k cpu) w o → Does (gatherOf (rowOf k .mode) k cpu) w o
-column c m e k cpu h here = by-mode k cpu (has-mode (inColumn c) (λ k. m) e h (within c k here))
+    → (edition : Edition) (k : ℕ) (cpu : Processor) {w : World} {o : Outcome World Operands} → Fits w8 k → bitAnd k 31 ≡ c
+    → Does (gatherOf edition m k cpu) w o → Does (gatherOf edition (rowOf k .mode) k cpu) w o
+column c m e edition k cpu h here = by-mode edition k cpu (has-mode (inColumn c) (λ k. m) e h (within c k here))
 
 -- opcodes named in a column's arm
 pub opcodes : (js : List ℕ) (m : Mode) → AllHave (hasKey js) (λ k. m)
-    → (k : ℕ) (cpu : Processor) {w : World} {o : Outcome World Operands} → Fits w8 k → OneOf js k
-    → Does (gatherOf m k cpu) w o → Does (gatherOf (rowOf k .mode) k cpu) w o
-opcodes js m e k cpu h one = by-mode k cpu (has-mode (hasKey js) (λ k. m) e h (held js k one))
+    → (edition : Edition) (k : ℕ) (cpu : Processor) {w : World} {o : Outcome World Operands} → Fits w8 k → OneOf js k
+    → Does (gatherOf edition m k cpu) w o → Does (gatherOf edition (rowOf k .mode) k cpu) w o
+opcodes js m e edition k cpu h one = by-mode edition k cpu (has-mode (hasKey js) (λ k. m) e h (held js k one))
 
 -- the others of the column
 pub others : (c : ℕ) (kss : List (List ℕ)) (m : Mode) → AllHave (λ k. inColumn c k && not (hasIn kss k)) (λ k. m)
     → T (below 256 (λ k. hasIn kss k || not (hasIn kss k)))
-    → (k : ℕ) (cpu : Processor) {w : World} {o : Outcome World Operands} → Fits w8 k → bitAnd k 31 ≡ c → NoneIn kss k
-    → Does (gatherOf m k cpu) w o → Does (gatherOf (rowOf k .mode) k cpu) w o
-others c kss m e t k cpu h here none =
-    by-mode k cpu
+    → (edition : Edition) (k : ℕ) (cpu : Processor) {w : World} {o : Outcome World Operands} → Fits w8 k → bitAnd k 31 ≡ c → NoneIn kss k
+    → Does (gatherOf edition m k cpu) w o → Does (gatherOf edition (rowOf k .mode) k cpu) w o
+others c kss m e t edition k cpu h here none =
+    by-mode edition k cpu
     (has-mode (λ k. inColumn c k && not (hasIn kss k)) (λ k. m) e h
     (yes-and (inColumn c k) (not (hasIn kss k)) (within c k here) (none-then 256 (λ k. not (hasIn kss k)) (λ k. k) kss k (h .fits) none t)))
 
 -- the rows of a column above those of MOV
 pub first-six : (c : ℕ) (m : Mode) → AllHave (λ k. inColumn c k && ltb k 192) (λ k. m)
-    → (k : ℕ) (cpu : Processor) {w : World} {o : Outcome World Operands} → Fits w8 k → bitAnd k 31 ≡ c → k < 192
-    → Does (gatherOf m k cpu) w o → Does (gatherOf (rowOf k .mode) k cpu) w o
-first-six c m e k cpu h here less =
-    by-mode k cpu
+    → (edition : Edition) (k : ℕ) (cpu : Processor) {w : World} {o : Outcome World Operands} → Fits w8 k → bitAnd k 31 ≡ c → k < 192
+    → Does (gatherOf edition m k cpu) w o → Does (gatherOf edition (rowOf k .mode) k cpu) w o
+first-six c m e edition k cpu h here less =
+    by-mode edition k cpu
     (has-mode (λ k. inColumn c k && ltb k 192) (λ k. m) e h
     (yes-and (inColumn c k) (ltb k 192) (within c k here) (rw (lt-ltb k 192 less) tt)))
 
@@ -86,37 +87,37 @@ first-six c m e k cpu h here less =
 
 -- a way to find an address, and its two modes
 pub record Place : Type 0 where
-  pub find : Processor → Access Addressed
+  pub find : Edition → Processor → Access Addressed
   pub to : Mode
   pub from : Mode
-  pub stores : (k : ℕ) (cpu : Processor) → gatherOf to k cpu ≡ then (find cpu) target
-  pub loads : (k : ℕ) (cpu : Processor) → gatherOf from k cpu ≡ then (find cpu) loaded
+  pub stores : (edition : Edition) (k : ℕ) (cpu : Processor) → gatherOf edition to k cpu ≡ then (find edition cpu) target
+  pub loads : (edition : Edition) (k : ℕ) (cpu : Processor) → gatherOf edition from k cpu ≡ then (find edition cpu) loaded
 
 -- the mode that a row of it has
 abbrev pub modeOf : Place → ℕ → Mode
 modeOf place k = cond (storeRow k) (place .to) (place .from)
 
-by-row : (place : Place) (b : Bool) (k : ℕ) (cpu : Processor)
-    → gatherOf (cond b (place .to) (place .from)) k cpu ≡ then (place .find cpu) (λ found. cond b (target found) (loaded found))
-by-row place true k cpu = place .stores k cpu
-by-row place false k cpu = place .loads k cpu
+by-row : (place : Place) (b : Bool) (edition : Edition) (k : ℕ) (cpu : Processor)
+    → gatherOf edition (cond b (place .to) (place .from)) k cpu ≡ then (place .find edition cpu) (λ found. cond b (target found) (loaded found))
+by-row place true edition k cpu = place .stores edition k cpu
+by-row place false edition k cpu = place .loads edition k cpu
 
 -- opcodes that pass q
 by-table : (q : ℕ → Bool) (place : Place) → AllHave q (modeOf place)
-    → (k : ℕ) (cpu : Processor) {w : World} {o : Outcome World Operands} → Fits w8 k → T (q k)
-    → Does (then (place .find cpu) (placed k)) w o → Does (gatherOf (rowOf k .mode) k cpu) w o
-by-table q place e k cpu h t does = by-mode k cpu (has-mode q (modeOf place) e h t) (rw (by-row place (storeRow k) k cpu) does)
+    → (edition : Edition) (k : ℕ) (cpu : Processor) {w : World} {o : Outcome World Operands} → Fits w8 k → T (q k)
+    → Does (then (place .find edition cpu) (placed k)) w o → Does (gatherOf edition (rowOf k .mode) k cpu) w o
+by-table q place e edition k cpu h t does = by-mode edition k cpu (has-mode q (modeOf place) e h t) (rw (by-row place (storeRow k) edition k cpu) does)
 
 -- a whole column
 pub places : (c : ℕ) (place : Place) → AllHave (inColumn c) (modeOf place)
-    → (k : ℕ) (cpu : Processor) {w : World} {o : Outcome World Operands} → Fits w8 k → bitAnd k 31 ≡ c
-    → Does (then (place .find cpu) (placed k)) w o → Does (gatherOf (rowOf k .mode) k cpu) w o
-places c place e k cpu h here = by-table (inColumn c) place e k cpu h (within c k here)
+    → (edition : Edition) (k : ℕ) (cpu : Processor) {w : World} {o : Outcome World Operands} → Fits w8 k → bitAnd k 31 ≡ c
+    → Does (then (place .find edition cpu) (placed k)) w o → Does (gatherOf edition (rowOf k .mode) k cpu) w o
+places c place e edition k cpu h here = by-table (inColumn c) place e edition k cpu h (within c k here)
 
 -- the last two rows of a column, a store and a load
 pub last-two : (c : ℕ) (place : Place) → AllHave (λ k. inColumn c k && not (ltb k 192)) (modeOf place)
-    → (k : ℕ) (cpu : Processor) {w : World} {o : Outcome World Operands} → Fits w8 k → bitAnd k 31 ≡ c → 192 ≤ k
-    → Does (then (place .find cpu) (placed k)) w o → Does (gatherOf (rowOf k .mode) k cpu) w o
-last-two c place e k cpu h here more =
-    by-table (λ k. inColumn c k && not (ltb k 192)) place e k cpu h
+    → (edition : Edition) (k : ℕ) (cpu : Processor) {w : World} {o : Outcome World Operands} → Fits w8 k → bitAnd k 31 ≡ c → 192 ≤ k
+    → Does (then (place .find edition cpu) (placed k)) w o → Does (gatherOf edition (rowOf k .mode) k cpu) w o
+last-two c place e edition k cpu h here more =
+    by-table (λ k. inColumn c k && not (ltb k 192)) place e edition k cpu h
     (yes-and (inColumn c k) (not (ltb k 192)) (within c k here) (rw (le-ltb k 192 more) tt))

@@ -2,7 +2,8 @@
 ghost use mathlib.Core.Path.{_≡_};
 ghost use Rattle.memory.specs.Contracts.{Ready, Performs};
 ghost use Rattle.instructions.specs.Rows.Mode.{immediate, direct, directX, absolute, pulled};
-ghost use Rattle.instructions.specs.Gather.{operands, gatherOf};
+ghost use Rattle.instructions.specs.Gather.{operands};
+ghost use Rattle.gather.specs.Columns.{plainly};
 use crate::places::load;
 use instructions::Operands;
 use processor::Processor;
@@ -24,7 +25,7 @@ pub fn implied(cpu: Processor) -> Operands
 // d: the byte there.
 pub fn direct(cpu: Processor, memory: &[u8], reads: &mut [u8], writes: &[u8]) -> Operands
     requires { ⌜ Ready memory reads writes ⌝ }
-    ensures { λ r. ⌜ Performs (gatherOf direct 0 cpu) memory reads writes r ⌝ }
+    ensures { λ r. ⌜ Performs (plainly direct cpu) memory reads writes r ⌝ }
 {
     let found = modes::d(cpu, memory, reads, writes);
     load(found, memory, reads, writes)
@@ -33,7 +34,7 @@ pub fn direct(cpu: Processor, memory: &[u8], reads: &mut [u8], writes: &[u8]) ->
 // d+X: the byte there.
 pub fn direct_x(cpu: Processor, memory: &[u8], reads: &mut [u8], writes: &[u8]) -> Operands
     requires { ⌜ Ready memory reads writes ⌝ }
-    ensures { λ r. ⌜ Performs (gatherOf directX 0 cpu) memory reads writes r ⌝ }
+    ensures { λ r. ⌜ Performs (plainly directX cpu) memory reads writes r ⌝ }
 {
     let found = modes::dx(cpu, memory, reads, writes);
     load(found, memory, reads, writes)
@@ -42,7 +43,7 @@ pub fn direct_x(cpu: Processor, memory: &[u8], reads: &mut [u8], writes: &[u8]) 
 // !a: the byte there.
 pub fn absolute(cpu: Processor, memory: &[u8], reads: &mut [u8], writes: &[u8]) -> Operands
     requires { ⌜ Ready memory reads writes ⌝ }
-    ensures { λ r. ⌜ Performs (gatherOf absolute 0 cpu) memory reads writes r ⌝ }
+    ensures { λ r. ⌜ Performs (plainly absolute cpu) memory reads writes r ⌝ }
 {
     let found = modes::abs(cpu, memory, reads, writes);
     load(found, memory, reads, writes)
@@ -65,7 +66,7 @@ fn byte_only(read: Produced) -> Operands
 // An operand byte.
 pub fn immediate(cpu: Processor, memory: &[u8], reads: &mut [u8], writes: &[u8]) -> Operands
     requires { ⌜ Ready memory reads writes ⌝ }
-    ensures { λ r. ⌜ Performs (gatherOf immediate 0 cpu) memory reads writes r ⌝ }
+    ensures { λ r. ⌜ Performs (plainly immediate cpu) memory reads writes r ⌝ }
 {
     byte_only(modes::fetch_u8(cpu, memory, reads, writes))
 }
@@ -73,7 +74,7 @@ pub fn immediate(cpu: Processor, memory: &[u8], reads: &mut [u8], writes: &[u8])
 // A byte from the stack.
 pub fn pulled(cpu: Processor, memory: &[u8], reads: &mut [u8], writes: &[u8]) -> Operands
     requires { ⌜ Ready memory reads writes ⌝ }
-    ensures { λ r. ⌜ Performs (gatherOf pulled 0 cpu) memory reads writes r ⌝ }
+    ensures { λ r. ⌜ Performs (plainly pulled cpu) memory reads writes r ⌝ }
 {
     byte_only(modes::pull_from_stack_u8(cpu, memory, reads, writes))
 }

@@ -1,9 +1,8 @@
 // The columns of the table whose rows do not all read alike. A column is the opcode's low five bits.
 ghost use mathlib.Core.Path.{_≡_};
 ghost use lib.Bits.{bitAnd};
-ghost use Rattle.memory.specs.Contracts.{Ready, Performs};
-ghost use Rattle.instructions.specs.Gather.{gatherOf};
-ghost use Rattle.instructions.specs.Rows.{rowOf};
+ghost use Rattle.memory.specs.Contracts.{Ready};
+ghost use Rattle.gather.specs.Columns.{RowPerforms};
 use crate::bytes;
 use crate::places;
 use crate::several;
@@ -15,7 +14,7 @@ use processor::Processor;
 pub fn column_09(cpu: Processor, memory: &[u8], reads: &mut [u8], writes: &[u8], op: u8) -> Operands
     requires { ⌜ Ready memory reads writes ⌝ }
     requires { ⌜ bitAnd op 0x1F ≡ 0x09 ⌝ }
-    ensures { λ r. ⌜ Performs (gatherOf (rowOf op .mode) op cpu) memory reads writes r ⌝ }
+    ensures { λ r. ⌜ RowPerforms op cpu memory reads writes r ⌝ }
 {
     if op < 0xC0 {
         return several::direct_direct(cpu, memory, reads, writes);
@@ -27,7 +26,7 @@ pub fn column_09(cpu: Processor, memory: &[u8], reads: &mut [u8], writes: &[u8],
 pub fn column_0d(cpu: Processor, memory: &[u8], reads: &mut [u8], writes: &[u8], op: u8) -> Operands
     requires { ⌜ Ready memory reads writes ⌝ }
     requires { ⌜ bitAnd op 0x1F ≡ 0x0D ⌝ }
-    ensures { λ r. ⌜ Performs (gatherOf (rowOf op .mode) op cpu) memory reads writes r ⌝ }
+    ensures { λ r. ⌜ RowPerforms op cpu memory reads writes r ⌝ }
 {
     match op {
         opcodes::MOV_Y_IMM | opcodes::CMP_Y_IMM | opcodes::MOV_X_IMM => bytes::immediate(
@@ -44,7 +43,7 @@ pub fn column_0d(cpu: Processor, memory: &[u8], reads: &mut [u8], writes: &[u8],
 pub fn column_0e(cpu: Processor, memory: &[u8], reads: &mut [u8], writes: &[u8], op: u8) -> Operands
     requires { ⌜ Ready memory reads writes ⌝ }
     requires { ⌜ bitAnd op 0x1F ≡ 0x0E ⌝ }
-    ensures { λ r. ⌜ Performs (gatherOf (rowOf op .mode) op cpu) memory reads writes r ⌝ }
+    ensures { λ r. ⌜ RowPerforms op cpu memory reads writes r ⌝ }
 {
     match op {
         opcodes::TSET1_ABS | opcodes::TCLR1_ABS => bytes::absolute(cpu, memory, reads, writes),
@@ -57,7 +56,7 @@ pub fn column_0e(cpu: Processor, memory: &[u8], reads: &mut [u8], writes: &[u8],
 pub fn column_0f(cpu: Processor, memory: &[u8], reads: &mut [u8], writes: &[u8], op: u8) -> Operands
     requires { ⌜ Ready memory reads writes ⌝ }
     requires { ⌜ bitAnd op 0x1F ≡ 0x0F ⌝ }
-    ensures { λ r. ⌜ Performs (gatherOf (rowOf op .mode) op cpu) memory reads writes r ⌝ }
+    ensures { λ r. ⌜ RowPerforms op cpu memory reads writes r ⌝ }
 {
     match op {
         opcodes::BRK => ways::vector_at(cpu, memory, reads, writes, 0xFFDE),
@@ -73,7 +72,7 @@ pub fn column_0f(cpu: Processor, memory: &[u8], reads: &mut [u8], writes: &[u8],
 pub fn column_18(cpu: Processor, memory: &[u8], reads: &mut [u8], writes: &[u8], op: u8) -> Operands
     requires { ⌜ Ready memory reads writes ⌝ }
     requires { ⌜ bitAnd op 0x1F ≡ 0x18 ⌝ }
-    ensures { λ r. ⌜ Performs (gatherOf (rowOf op .mode) op cpu) memory reads writes r ⌝ }
+    ensures { λ r. ⌜ RowPerforms op cpu memory reads writes r ⌝ }
 {
     if op < 0xC0 {
         return several::direct_immediate(cpu, memory, reads, writes);
@@ -85,7 +84,7 @@ pub fn column_18(cpu: Processor, memory: &[u8], reads: &mut [u8], writes: &[u8],
 pub fn column_19(cpu: Processor, memory: &[u8], reads: &mut [u8], writes: &[u8], op: u8) -> Operands
     requires { ⌜ Ready memory reads writes ⌝ }
     requires { ⌜ bitAnd op 0x1F ≡ 0x19 ⌝ }
-    ensures { λ r. ⌜ Performs (gatherOf (rowOf op .mode) op cpu) memory reads writes r ⌝ }
+    ensures { λ r. ⌜ RowPerforms op cpu memory reads writes r ⌝ }
 {
     if op < 0xC0 {
         return several::at_x_at_y(cpu, memory, reads, writes);
@@ -97,7 +96,7 @@ pub fn column_19(cpu: Processor, memory: &[u8], reads: &mut [u8], writes: &[u8],
 pub fn column_1a(cpu: Processor, memory: &[u8], reads: &mut [u8], writes: &[u8], op: u8) -> Operands
     requires { ⌜ Ready memory reads writes ⌝ }
     requires { ⌜ bitAnd op 0x1F ≡ 0x1A ⌝ }
-    ensures { λ r. ⌜ Performs (gatherOf (rowOf op .mode) op cpu) memory reads writes r ⌝ }
+    ensures { λ r. ⌜ RowPerforms op cpu memory reads writes r ⌝ }
 {
     match op {
         opcodes::MOVW_D_YA => several::to_direct_word(cpu, memory, reads, writes),
@@ -110,7 +109,7 @@ pub fn column_1a(cpu: Processor, memory: &[u8], reads: &mut [u8], writes: &[u8],
 pub fn column_1e(cpu: Processor, memory: &[u8], reads: &mut [u8], writes: &[u8], op: u8) -> Operands
     requires { ⌜ Ready memory reads writes ⌝ }
     requires { ⌜ bitAnd op 0x1F ≡ 0x1E ⌝ }
-    ensures { λ r. ⌜ Performs (gatherOf (rowOf op .mode) op cpu) memory reads writes r ⌝ }
+    ensures { λ r. ⌜ RowPerforms op cpu memory reads writes r ⌝ }
 {
     match op {
         opcodes::CMP_X_ABS | opcodes::CMP_Y_ABS => bytes::absolute(cpu, memory, reads, writes),
@@ -124,7 +123,7 @@ pub fn column_1e(cpu: Processor, memory: &[u8], reads: &mut [u8], writes: &[u8],
 pub fn column_1f(cpu: Processor, memory: &[u8], reads: &mut [u8], writes: &[u8], op: u8) -> Operands
     requires { ⌜ Ready memory reads writes ⌝ }
     requires { ⌜ bitAnd op 0x1F ≡ 0x1F ⌝ }
-    ensures { λ r. ⌜ Performs (gatherOf (rowOf op .mode) op cpu) memory reads writes r ⌝ }
+    ensures { λ r. ⌜ RowPerforms op cpu memory reads writes r ⌝ }
 {
     match op {
         opcodes::JMP_IAX => ways::word_at_x(cpu, memory, reads, writes),

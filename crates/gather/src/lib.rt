@@ -8,14 +8,22 @@ mod ways;
 ghost use Rattle.memory.specs.Contracts.{Ready, Performs};
 ghost use Rattle.instructions.specs.Gather.{gatherOf};
 ghost use Rattle.instructions.specs.Rows.{rowOf};
+use editions::Edition;
 use instructions::Operands;
 use processor::Processor;
 
 // What the opcode's row reads, with PC behind the opcode. The low five bits pick a column of the table; first come the columns whose rows
 // do not all read alike. Each column has an arm of its own, also where two do the same: a step is then cheaper (docs/SPEED.md).
-pub fn gather(cpu: Processor, memory: &[u8], reads: &mut [u8], writes: &[u8], op: u8) -> Operands
+pub fn gather(
+    cpu: Processor,
+    edition: Edition,
+    memory: &[u8],
+    reads: &mut [u8],
+    writes: &[u8],
+    op: u8,
+) -> Operands
     requires { ⌜ Ready memory reads writes ⌝ }
-    ensures { λ r. ⌜ Performs (gatherOf (rowOf op .mode) op cpu) memory reads writes r ⌝ }
+    ensures { λ r. ⌜ Performs (gatherOf edition (rowOf op .mode) op cpu) memory reads writes r ⌝ }
 {
     match op & 0x1F {
         0x09 => columns::column_09(cpu, memory, reads, writes, op),
@@ -33,7 +41,7 @@ pub fn gather(cpu: Processor, memory: &[u8], reads: &mut [u8], writes: &[u8], op
         0x04 => places::d(cpu, memory, reads, writes, op),
         0x05 => places::abs(cpu, memory, reads, writes, op),
         0x06 => places::place(modes::ix(cpu), memory, reads, writes, op),
-        0x07 => places::idx(cpu, memory, reads, writes, op),
+        0x07 => places::idx(cpu, edition, memory, reads, writes, op),
         0x08 => bytes::immediate(cpu, memory, reads, writes),
         0x0A => several::memory_bit(cpu, memory, reads, writes),
         0x0B => places::d(cpu, memory, reads, writes, op),
@@ -45,7 +53,7 @@ pub fn gather(cpu: Processor, memory: &[u8], reads: &mut [u8], writes: &[u8], op
         0x14 => places::dx(cpu, memory, reads, writes, op),
         0x15 => places::absx(cpu, memory, reads, writes, op),
         0x16 => places::absy(cpu, memory, reads, writes, op),
-        0x17 => places::idy(cpu, memory, reads, writes, op),
+        0x17 => places::idy(cpu, edition, memory, reads, writes, op),
         0x1B => places::dx(cpu, memory, reads, writes, op),
         0x1C => bytes::implied(cpu),
         0x1D => bytes::implied(cpu),

@@ -5,6 +5,7 @@ ghost use Rattle.memory.specs.Access.{then};
 ghost use Rattle.modes.specs.Modes as mode;
 ghost use Rattle.instructions.specs.Gather.{operands, loaded};
 ghost use Rattle.gather.specs.Columns.{placed};
+use editions::Edition;
 use instructions::Operands;
 use modes::Addressed;
 use processor::Processor;
@@ -105,19 +106,33 @@ pub fn absy(cpu: Processor, memory: &[u8], reads: &mut [u8], writes: &[u8], op: 
 }
 
 // [d+X]
-pub fn idx(cpu: Processor, memory: &[u8], reads: &mut [u8], writes: &[u8], op: u8) -> Operands
+pub fn idx(
+    cpu: Processor,
+    edition: Edition,
+    memory: &[u8],
+    reads: &mut [u8],
+    writes: &[u8],
+    op: u8,
+) -> Operands
     requires { ⌜ Ready memory reads writes ⌝ }
-    ensures { λ r. ⌜ Performs (then (mode.pointerX cpu) (placed op)) memory reads writes r ⌝ }
+    ensures { λ r. ⌜ Performs (then (mode.pointerX edition cpu) (placed op)) memory reads writes r ⌝ }
 {
-    let found = modes::idx(cpu, memory, reads, writes);
+    let found = modes::idx(cpu, edition, memory, reads, writes);
     place(found, memory, reads, writes, op)
 }
 
 // [d]+Y
-pub fn idy(cpu: Processor, memory: &[u8], reads: &mut [u8], writes: &[u8], op: u8) -> Operands
+pub fn idy(
+    cpu: Processor,
+    edition: Edition,
+    memory: &[u8],
+    reads: &mut [u8],
+    writes: &[u8],
+    op: u8,
+) -> Operands
     requires { ⌜ Ready memory reads writes ⌝ }
-    ensures { λ r. ⌜ Performs (then (mode.pointerY cpu) (placed op)) memory reads writes r ⌝ }
+    ensures { λ r. ⌜ Performs (then (mode.pointerY edition cpu) (placed op)) memory reads writes r ⌝ }
 {
-    let found = modes::idy(cpu, memory, reads, writes);
+    let found = modes::idy(cpu, edition, memory, reads, writes);
     place(found, memory, reads, writes, op)
 }

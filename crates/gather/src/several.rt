@@ -3,7 +3,8 @@ ghost use Prim.Native.Nat.{_^_, _≤_};
 ghost use mathlib.Core.Path.{_≡_};
 ghost use Rattle.memory.specs.Contracts.{Ready, Performs};
 ghost use Rattle.instructions.specs.Rows.Mode.{directDirect, directToDirect, directImmediate, immediateToDirect, atXatY, directWord, toDirectWord, memoryBit};
-ghost use Rattle.instructions.specs.Gather.{bothLoaded, sourceLoaded, gatherOf};
+ghost use Rattle.instructions.specs.Gather.{bothLoaded, sourceLoaded};
+ghost use Rattle.gather.specs.Columns.{plainly};
 use instructions::Operands;
 use modes::Addressed;
 use processor::Processor;
@@ -56,7 +57,7 @@ fn load_source(
 // d,d: the source's operand byte comes first.
 pub fn direct_direct(cpu: Processor, memory: &[u8], reads: &mut [u8], writes: &[u8]) -> Operands
     requires { ⌜ Ready memory reads writes ⌝ }
-    ensures { λ r. ⌜ Performs (gatherOf directDirect 0 cpu) memory reads writes r ⌝ }
+    ensures { λ r. ⌜ Performs (plainly directDirect cpu) memory reads writes r ⌝ }
 {
     let source = modes::d(cpu, memory, reads, writes);
     let next = source.cpu;
@@ -67,7 +68,7 @@ pub fn direct_direct(cpu: Processor, memory: &[u8], reads: &mut [u8], writes: &[
 // d,d for MOV, which does not read its target.
 pub fn direct_to_direct(cpu: Processor, memory: &[u8], reads: &mut [u8], writes: &[u8]) -> Operands
     requires { ⌜ Ready memory reads writes ⌝ }
-    ensures { λ r. ⌜ Performs (gatherOf directToDirect 0 cpu) memory reads writes r ⌝ }
+    ensures { λ r. ⌜ Performs (plainly directToDirect cpu) memory reads writes r ⌝ }
 {
     let source = modes::d(cpu, memory, reads, writes);
     let next = source.cpu;
@@ -78,7 +79,7 @@ pub fn direct_to_direct(cpu: Processor, memory: &[u8], reads: &mut [u8], writes:
 // d,#i: the immediate comes first.
 pub fn direct_immediate(cpu: Processor, memory: &[u8], reads: &mut [u8], writes: &[u8]) -> Operands
     requires { ⌜ Ready memory reads writes ⌝ }
-    ensures { λ r. ⌜ Performs (gatherOf directImmediate 0 cpu) memory reads writes r ⌝ }
+    ensures { λ r. ⌜ Performs (plainly directImmediate cpu) memory reads writes r ⌝ }
 {
     let immediate = modes::fetch_u8(cpu, memory, reads, writes);
     let next = immediate.cpu;
@@ -102,7 +103,7 @@ pub fn immediate_to_direct(
     writes: &[u8],
 ) -> Operands
     requires { ⌜ Ready memory reads writes ⌝ }
-    ensures { λ r. ⌜ Performs (gatherOf immediateToDirect 0 cpu) memory reads writes r ⌝ }
+    ensures { λ r. ⌜ Performs (plainly immediateToDirect cpu) memory reads writes r ⌝ }
 {
     let immediate = modes::fetch_u8(cpu, memory, reads, writes);
     let next = immediate.cpu;
@@ -120,7 +121,7 @@ pub fn immediate_to_direct(
 // (X),(Y): (Y) is the source.
 pub fn at_x_at_y(cpu: Processor, memory: &[u8], reads: &mut [u8], writes: &[u8]) -> Operands
     requires { ⌜ Ready memory reads writes ⌝ }
-    ensures { λ r. ⌜ Performs (gatherOf atXatY 0 cpu) memory reads writes r ⌝ }
+    ensures { λ r. ⌜ Performs (plainly atXatY cpu) memory reads writes r ⌝ }
 {
     let source = modes::iy(cpu);
     load_both(modes::ix(cpu), memory, reads, writes, source.at)
@@ -129,7 +130,7 @@ pub fn at_x_at_y(cpu: Processor, memory: &[u8], reads: &mut [u8], writes: &[u8])
 // A word of the direct page.
 pub fn direct_word(cpu: Processor, memory: &[u8], reads: &mut [u8], writes: &[u8]) -> Operands
     requires { ⌜ Ready memory reads writes ⌝ }
-    ensures { λ r. ⌜ Performs (gatherOf directWord 0 cpu) memory reads writes r ⌝ }
+    ensures { λ r. ⌜ Performs (plainly directWord cpu) memory reads writes r ⌝ }
 {
     let found = modes::dw(cpu, memory, reads, writes);
     let low = memory::read(memory, reads, writes, found.low);
@@ -147,7 +148,7 @@ pub fn direct_word(cpu: Processor, memory: &[u8], reads: &mut [u8], writes: &[u8
 // The place of a word of the direct page.
 pub fn to_direct_word(cpu: Processor, memory: &[u8], reads: &mut [u8], writes: &[u8]) -> Operands
     requires { ⌜ Ready memory reads writes ⌝ }
-    ensures { λ r. ⌜ Performs (gatherOf toDirectWord 0 cpu) memory reads writes r ⌝ }
+    ensures { λ r. ⌜ Performs (plainly toDirectWord cpu) memory reads writes r ⌝ }
 {
     let found = modes::dw(cpu, memory, reads, writes);
     let after = found.cpu;
@@ -171,7 +172,7 @@ fn bit_value(bit: u8) -> u8
 // A byte and one of its bits, by its value.
 pub fn memory_bit(cpu: Processor, memory: &[u8], reads: &mut [u8], writes: &[u8]) -> Operands
     requires { ⌜ Ready memory reads writes ⌝ }
-    ensures { λ r. ⌜ Performs (gatherOf memoryBit 0 cpu) memory reads writes r ⌝ }
+    ensures { λ r. ⌜ Performs (plainly memoryBit cpu) memory reads writes r ⌝ }
 {
     let found = modes::bit_operand(cpu, memory, reads, writes);
     let low = memory::read(memory, reads, writes, found.at);

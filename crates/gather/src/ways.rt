@@ -2,7 +2,8 @@
 ghost use Prim.Native.Nat.{_-_, _*_, _/_};
 ghost use Rattle.memory.specs.Contracts.{Ready, Performs};
 ghost use Rattle.instructions.specs.Rows.Mode.{upperPage, word, wordAtX, pulledWord, pulledThree};
-ghost use Rattle.instructions.specs.Gather.{vector, gatherOf};
+ghost use Rattle.instructions.specs.Gather.{vector};
+ghost use Rattle.gather.specs.Columns.{plainly};
 use crate::places::aim;
 use instructions::Operands;
 use processor::Processor;
@@ -10,7 +11,7 @@ use processor::Processor;
 // PCALL: an operand byte in the upper page.
 pub fn upper_page(cpu: Processor, memory: &[u8], reads: &mut [u8], writes: &[u8]) -> Operands
     requires { ⌜ Ready memory reads writes ⌝ }
-    ensures { λ r. ⌜ Performs (gatherOf upperPage 0 cpu) memory reads writes r ⌝ }
+    ensures { λ r. ⌜ Performs (plainly upperPage cpu) memory reads writes r ⌝ }
 {
     let operand = modes::fetch_u8(cpu, memory, reads, writes);
     let after = operand.cpu;
@@ -61,7 +62,7 @@ pub fn table_vector(
 // CALL and JMP: an operand word.
 pub fn word(cpu: Processor, memory: &[u8], reads: &mut [u8], writes: &[u8]) -> Operands
     requires { ⌜ Ready memory reads writes ⌝ }
-    ensures { λ r. ⌜ Performs (gatherOf word 0 cpu) memory reads writes r ⌝ }
+    ensures { λ r. ⌜ Performs (plainly word cpu) memory reads writes r ⌝ }
 {
     aim(modes::abs(cpu, memory, reads, writes))
 }
@@ -69,7 +70,7 @@ pub fn word(cpu: Processor, memory: &[u8], reads: &mut [u8], writes: &[u8]) -> O
 // JMP [!a+X]: the word there.
 pub fn word_at_x(cpu: Processor, memory: &[u8], reads: &mut [u8], writes: &[u8]) -> Operands
     requires { ⌜ Ready memory reads writes ⌝ }
-    ensures { λ r. ⌜ Performs (gatherOf wordAtX 0 cpu) memory reads writes r ⌝ }
+    ensures { λ r. ⌜ Performs (plainly wordAtX cpu) memory reads writes r ⌝ }
 {
     aim(modes::iax(cpu, memory, reads, writes))
 }
@@ -77,7 +78,7 @@ pub fn word_at_x(cpu: Processor, memory: &[u8], reads: &mut [u8], writes: &[u8])
 // RET: a word from the stack.
 pub fn pulled_word(cpu: Processor, memory: &[u8], reads: &mut [u8], writes: &[u8]) -> Operands
     requires { ⌜ Ready memory reads writes ⌝ }
-    ensures { λ r. ⌜ Performs (gatherOf pulledWord 0 cpu) memory reads writes r ⌝ }
+    ensures { λ r. ⌜ Performs (plainly pulledWord cpu) memory reads writes r ⌝ }
 {
     aim(modes::pull_from_stack_u16(cpu, memory, reads, writes))
 }
@@ -85,7 +86,7 @@ pub fn pulled_word(cpu: Processor, memory: &[u8], reads: &mut [u8], writes: &[u8
 // RETI: a byte from the stack, then a word.
 pub fn pulled_three(cpu: Processor, memory: &[u8], reads: &mut [u8], writes: &[u8]) -> Operands
     requires { ⌜ Ready memory reads writes ⌝ }
-    ensures { λ r. ⌜ Performs (gatherOf pulledThree 0 cpu) memory reads writes r ⌝ }
+    ensures { λ r. ⌜ Performs (plainly pulledThree cpu) memory reads writes r ⌝ }
 {
     let first = modes::pull_from_stack_u8(cpu, memory, reads, writes);
     let next = first.cpu;

@@ -6,6 +6,7 @@ use lib.Pow.{pow-lt}
 use Rattle.memory.specs.Access.Access.{done}
 use Rattle.processor.specs.declared.Processor.{Processor}
 use Rattle.processor.specs.declared.Produced.{Produced}
+use Rattle.editions.specs.declared.Edition.{Edition}
 use Rattle.modes.specs.declared.Addressed.{Addressed}
 use Rattle.instructions.specs.Rows.{Mode}
 use Rattle.instructions.specs.Rows.Mode.{implied, immediate, direct, directX, directY, absolute, absoluteX, absoluteY, atX, pointerX, pointerY, toDirect, toDirectX, toDirectY, toAbsolute, toAbsoluteX, toAbsoluteY, toX, toPointerX, toPointerY, directDirect, directImmediate, atXatY, directToDirect, immediateToDirect, directWord, toDirectWord, memoryBit, word, wordAtX, upperPage, tableVector, breakVector, pulled, pulledWord, pulledThree}
@@ -63,43 +64,44 @@ by-vector at h c = follow (word-at at h) (λ w h. found c h no-byte no-byte)
 
 -- ---- the modes
 
-pub gathered : (m : Mode) (opcode : ℕ) {cpu : Processor} → Fits cpu → Within Gathered (gatherOf m opcode cpu)
-unfolding gatherOf
-gathered implied opcode c = found c none no-byte no-byte
-gathered immediate opcode c = follow (fetched c) only-byte
-gathered direct opcode c = follow (in-direct _ c) and-byte
-gathered directX opcode c = follow (in-direct _ c) and-byte
-gathered directY opcode c = follow (in-direct _ c) and-byte
-gathered absolute opcode c = follow (in-absolute _ c) and-byte
-gathered absoluteX opcode c = follow (in-absolute _ c) and-byte
-gathered absoluteY opcode c = follow (in-absolute _ c) and-byte
-gathered atX opcode c = and-byte _ (at-register _ c)
-gathered pointerX opcode c = follow (by-pointer-x c) and-byte
-gathered pointerY opcode c = follow (by-pointer-y c) and-byte
-gathered toDirect opcode c = follow (in-direct _ c) only-address
-gathered toDirectX opcode c = follow (in-direct _ c) only-address
-gathered toDirectY opcode c = follow (in-direct _ c) only-address
-gathered toAbsolute opcode c = follow (in-absolute _ c) only-address
-gathered toAbsoluteX opcode c = follow (in-absolute _ c) only-address
-gathered toAbsoluteY opcode c = follow (in-absolute _ c) only-address
-gathered toX opcode c = only-address _ (at-register _ c)
-gathered toPointerX opcode c = follow (by-pointer-x c) only-address
-gathered toPointerY opcode c = follow (by-pointer-y c) only-address
-gathered directDirect opcode c = follow (in-direct _ c) (λ s h. follow (in-direct _ (h .cpu)) (and-both (s .at) (h .at)))
-gathered directToDirect opcode c = follow (in-direct _ c) (λ s h. follow (in-direct _ (h .cpu)) (and-source (s .at) (h .at)))
-gathered directImmediate opcode c = follow (fetched c) (λ i b. follow (in-direct _ (b .cpu)) (λ t h. reads (h .at) (λ high l. found (h .cpu) (h .at) (b .byte) l)))
-gathered immediateToDirect opcode c = follow (fetched c) (λ i b. follow (in-direct _ (b .cpu)) (λ t h. found (h .cpu) (h .at) (b .byte) no-byte))
-gathered atXatY opcode {cpu} c = and-both _ (at-register (cpu .y) c .at) _ (at-register (cpu .x) c)
-gathered directWord opcode c =
-    follow (in-direct-word c)
-    (λ d h. reads (h .low) (λ low l. reads (h .high) (λ high b. ends (record { cpu = h .cpu; at = h .low; next = h .high; low = l; high = b }))))
-gathered toDirectWord opcode c = follow (in-direct-word c) (λ d h. ends (record { cpu = h .cpu; at = h .low; next = h .high; low = no-byte; high = no-byte }))
-gathered memoryBit opcode c = follow (in-bits c) (λ m h. reads (h .at) (λ byte b. found (h .cpu) (h .at) b (power (h .bit))))
-gathered word opcode c = follow (in-absolute _ c) only-address
-gathered wordAtX opcode c = follow (by-absolute-pointer c) only-address
-gathered upperPage opcode c = follow (fetched c) (λ f b. found (b .cpu) (omega arith) no-byte no-byte)
-gathered tableVector opcode c = by-vector _ (omega arith) c
-gathered breakVector opcode c = by-vector _ (omega arith) c
-gathered pulled opcode c = follow (popped c) only-byte
-gathered pulledWord opcode c = follow (popped-word c) only-address
-gathered pulledThree opcode c = follow (popped c) (λ p b. follow (popped-word (b .cpu)) (λ w h. found (h .cpu) (h .at) (b .byte) no-byte))
+module _ (edition : Edition) where
+  pub gathered : (m : Mode) (opcode : ℕ) {cpu : Processor} → Fits cpu → Within Gathered (gatherOf edition m opcode cpu)
+  unfolding gatherOf
+  gathered implied opcode c = found c none no-byte no-byte
+  gathered immediate opcode c = follow (fetched c) only-byte
+  gathered direct opcode c = follow (in-direct _ c) and-byte
+  gathered directX opcode c = follow (in-direct _ c) and-byte
+  gathered directY opcode c = follow (in-direct _ c) and-byte
+  gathered absolute opcode c = follow (in-absolute _ c) and-byte
+  gathered absoluteX opcode c = follow (in-absolute _ c) and-byte
+  gathered absoluteY opcode c = follow (in-absolute _ c) and-byte
+  gathered atX opcode c = and-byte _ (at-register _ c)
+  gathered pointerX opcode c = follow (by-pointer-x edition c) and-byte
+  gathered pointerY opcode c = follow (by-pointer-y edition c) and-byte
+  gathered toDirect opcode c = follow (in-direct _ c) only-address
+  gathered toDirectX opcode c = follow (in-direct _ c) only-address
+  gathered toDirectY opcode c = follow (in-direct _ c) only-address
+  gathered toAbsolute opcode c = follow (in-absolute _ c) only-address
+  gathered toAbsoluteX opcode c = follow (in-absolute _ c) only-address
+  gathered toAbsoluteY opcode c = follow (in-absolute _ c) only-address
+  gathered toX opcode c = only-address _ (at-register _ c)
+  gathered toPointerX opcode c = follow (by-pointer-x edition c) only-address
+  gathered toPointerY opcode c = follow (by-pointer-y edition c) only-address
+  gathered directDirect opcode c = follow (in-direct _ c) (λ s h. follow (in-direct _ (h .cpu)) (and-both (s .at) (h .at)))
+  gathered directToDirect opcode c = follow (in-direct _ c) (λ s h. follow (in-direct _ (h .cpu)) (and-source (s .at) (h .at)))
+  gathered directImmediate opcode c = follow (fetched c) (λ i b. follow (in-direct _ (b .cpu)) (λ t h. reads (h .at) (λ high l. found (h .cpu) (h .at) (b .byte) l)))
+  gathered immediateToDirect opcode c = follow (fetched c) (λ i b. follow (in-direct _ (b .cpu)) (λ t h. found (h .cpu) (h .at) (b .byte) no-byte))
+  gathered atXatY opcode {cpu} c = and-both _ (at-register (cpu .y) c .at) _ (at-register (cpu .x) c)
+  gathered directWord opcode c =
+      follow (in-direct-word c)
+      (λ d h. reads (h .low) (λ low l. reads (h .high) (λ high b. ends (record { cpu = h .cpu; at = h .low; next = h .high; low = l; high = b }))))
+  gathered toDirectWord opcode c = follow (in-direct-word c) (λ d h. ends (record { cpu = h .cpu; at = h .low; next = h .high; low = no-byte; high = no-byte }))
+  gathered memoryBit opcode c = follow (in-bits c) (λ m h. reads (h .at) (λ byte b. found (h .cpu) (h .at) b (power (h .bit))))
+  gathered word opcode c = follow (in-absolute _ c) only-address
+  gathered wordAtX opcode c = follow (by-absolute-pointer c) only-address
+  gathered upperPage opcode c = follow (fetched c) (λ f b. found (b .cpu) (omega arith) no-byte no-byte)
+  gathered tableVector opcode c = by-vector _ (omega arith) c
+  gathered breakVector opcode c = by-vector _ (omega arith) c
+  gathered pulled opcode c = follow (popped c) only-byte
+  gathered pulledWord opcode c = follow (popped-word c) only-address
+  gathered pulledThree opcode c = follow (popped c) (λ p b. follow (popped-word (b .cpu)) (λ w h. found (h .cpu) (h .at) (b .byte) no-byte))

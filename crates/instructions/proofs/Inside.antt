@@ -6,6 +6,7 @@ use native.Mathlib.Omega.{arith}
 use lib.Dec.{ltb}
 use Rattle.processor.specs.Record.{withPc}
 use Rattle.processor.specs.declared.Processor.{Processor}
+use Rattle.editions.specs.declared.Edition.{Edition}
 use Rattle.modes.specs.Branches.{branched}
 use Rattle.modes.specs.Stack.{push, pushWord, called}
 use Rattle.instructions.specs.Rows.{rowOf}
@@ -69,12 +70,13 @@ record Read (b : Begun) : Type 0 where
   opcode : b .opcode < 256
   operands : Gathered (b .operands)
 
-begun : {cpu : Processor} → Fits cpu → Within Read (beginOf cpu)
-unfolding beginOf readFor
-begun c =
-    follow (fetched c)
-    (λ opcode f. follow (gathered (rowOf (opcode .byte) .mode) (opcode .byte) (f .cpu)) (λ o g. ends (record { opcode = f .byte; operands = g })))
+module _ (edition : Edition) where
+  begun : {cpu : Processor} → Fits cpu → Within Read (beginOf edition cpu)
+  unfolding beginOf readFor
+  begun c =
+      follow (fetched c)
+      (λ opcode f. follow (gathered edition (rowOf (opcode .byte) .mode) (opcode .byte) (f .cpu)) (λ o g. ends (record { opcode = f .byte; operands = g })))
 
-pub step-within : (cpu : Processor) → Fits cpu → Within (λ (s : Stepped). Fits (s .cpu)) (stepOf cpu)
-unfolding stepOf
-step-within cpu c = follow (begun c) (λ b r. finished _ (made (b .opcode) (r .opcode) (r .operands) (rowOf (b .opcode) .operation)))
+  pub step-within : (cpu : Processor) → Fits cpu → Within (λ (s : Stepped). Fits (s .cpu)) (stepOf edition cpu)
+  unfolding stepOf
+  step-within cpu c = follow (begun c) (λ b r. finished _ (made (b .opcode) (r .opcode) (r .operands) (rowOf (b .opcode) .operation)))

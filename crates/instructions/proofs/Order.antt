@@ -11,6 +11,7 @@ use Rattle.memory.specs.Access.{Access, then}
 use Rattle.memory.specs.Access.Access.{done, readAt, storeAt}
 use Rattle.memory.specs.Words.{readWord}
 use Rattle.processor.specs.declared.Processor.{Processor}
+use Rattle.editions.specs.declared.Edition.{Edition}
 use Rattle.modes.specs.Addresses.{onward}
 use Rattle.modes.specs.Branches.{branched}
 use Rattle.modes.specs.Modes as mode
@@ -43,44 +44,44 @@ reads-then (readAt a p) g k h f = λ byte. reads-then (p byte) g k (h byte) f
 reads-then (storeAt a byte p) g k h f = absurd h
 
 -- Every mode only reads: a λ for each byte that it reads.
-mode-reads : (m : Mode) (opcode : ℕ) (cpu : Processor) → OnlyReads (gatherOf m opcode cpu)
+mode-reads : (edition : Edition) (m : Mode) (opcode : ℕ) (cpu : Processor) → OnlyReads (gatherOf edition m opcode cpu)
 unfolding gatherOf loaded bothLoaded sourceLoaded vector readWord pull pullWord mode.fetch mode.fetchWord mode.direct mode.directWord mode.pointed mode.pointerX mode.pointerY mode.absolute mode.absolutePointer mode.bitOperand then
-mode-reads implied opcode cpu = tt
-mode-reads immediate opcode cpu = λ _. tt
-mode-reads direct opcode cpu = λ _ _. tt
-mode-reads directX opcode cpu = λ _ _. tt
-mode-reads directY opcode cpu = λ _ _. tt
-mode-reads absolute opcode cpu = λ _ _ _. tt
-mode-reads absoluteX opcode cpu = λ _ _ _. tt
-mode-reads absoluteY opcode cpu = λ _ _ _. tt
-mode-reads atX opcode cpu = λ _. tt
-mode-reads pointerX opcode cpu = λ _ _ _ _. tt
-mode-reads pointerY opcode cpu = λ _ _ _ _. tt
-mode-reads toDirect opcode cpu = λ _. tt
-mode-reads toDirectX opcode cpu = λ _. tt
-mode-reads toDirectY opcode cpu = λ _. tt
-mode-reads toAbsolute opcode cpu = λ _ _. tt
-mode-reads toAbsoluteX opcode cpu = λ _ _. tt
-mode-reads toAbsoluteY opcode cpu = λ _ _. tt
-mode-reads toX opcode cpu = tt
-mode-reads toPointerX opcode cpu = λ _ _ _. tt
-mode-reads toPointerY opcode cpu = λ _ _ _. tt
-mode-reads directDirect opcode cpu = λ _ _ _ _. tt
-mode-reads directToDirect opcode cpu = λ _ _ _. tt
-mode-reads directImmediate opcode cpu = λ _ _ _. tt
-mode-reads immediateToDirect opcode cpu = λ _ _. tt
-mode-reads atXatY opcode cpu = λ _ _. tt
-mode-reads directWord opcode cpu = λ _ _ _. tt
-mode-reads toDirectWord opcode cpu = λ _. tt
-mode-reads memoryBit opcode cpu = λ _ _ _. tt
-mode-reads word opcode cpu = λ _ _. tt
-mode-reads wordAtX opcode cpu = λ _ _ _ _. tt
-mode-reads upperPage opcode cpu = λ _. tt
-mode-reads tableVector opcode cpu = λ _ _. tt
-mode-reads breakVector opcode cpu = λ _ _. tt
-mode-reads pulled opcode cpu = λ _. tt
-mode-reads pulledWord opcode cpu = λ _ _. tt
-mode-reads pulledThree opcode cpu = λ _ _ _. tt
+mode-reads edition implied opcode cpu = tt
+mode-reads edition immediate opcode cpu = λ _. tt
+mode-reads edition direct opcode cpu = λ _ _. tt
+mode-reads edition directX opcode cpu = λ _ _. tt
+mode-reads edition directY opcode cpu = λ _ _. tt
+mode-reads edition absolute opcode cpu = λ _ _ _. tt
+mode-reads edition absoluteX opcode cpu = λ _ _ _. tt
+mode-reads edition absoluteY opcode cpu = λ _ _ _. tt
+mode-reads edition atX opcode cpu = λ _. tt
+mode-reads edition pointerX opcode cpu = λ _ _ _ _. tt
+mode-reads edition pointerY opcode cpu = λ _ _ _ _. tt
+mode-reads edition toDirect opcode cpu = λ _. tt
+mode-reads edition toDirectX opcode cpu = λ _. tt
+mode-reads edition toDirectY opcode cpu = λ _. tt
+mode-reads edition toAbsolute opcode cpu = λ _ _. tt
+mode-reads edition toAbsoluteX opcode cpu = λ _ _. tt
+mode-reads edition toAbsoluteY opcode cpu = λ _ _. tt
+mode-reads edition toX opcode cpu = tt
+mode-reads edition toPointerX opcode cpu = λ _ _ _. tt
+mode-reads edition toPointerY opcode cpu = λ _ _ _. tt
+mode-reads edition directDirect opcode cpu = λ _ _ _ _. tt
+mode-reads edition directToDirect opcode cpu = λ _ _ _. tt
+mode-reads edition directImmediate opcode cpu = λ _ _ _. tt
+mode-reads edition immediateToDirect opcode cpu = λ _ _. tt
+mode-reads edition atXatY opcode cpu = λ _ _. tt
+mode-reads edition directWord opcode cpu = λ _ _ _. tt
+mode-reads edition toDirectWord opcode cpu = λ _. tt
+mode-reads edition memoryBit opcode cpu = λ _ _ _. tt
+mode-reads edition word opcode cpu = λ _ _. tt
+mode-reads edition wordAtX opcode cpu = λ _ _ _ _. tt
+mode-reads edition upperPage opcode cpu = λ _. tt
+mode-reads edition tableVector opcode cpu = λ _ _. tt
+mode-reads edition breakVector opcode cpu = λ _ _. tt
+mode-reads edition pulled opcode cpu = λ _. tt
+mode-reads edition pulledWord opcode cpu = λ _ _. tt
+mode-reads edition pulledThree opcode cpu = λ _ _ _. tt
 
 -- ---- the stores, and then the displacement
 
@@ -122,9 +123,10 @@ row-not-both opcode h other o =
     none-then 256 (λ k. notBoth (effectOf (rowOf k .operation) k o)) (λ k. k) ((0x6E ∷ []) ∷ []) opcode h (tt, other) tt
 
 -- What follows an opcode in a step reads first, but for DBNZ d,rel.
-pub reads-first : (cpu : Processor) (opcode : ℕ) → opcode < 256 → (opcode ≡ 0x6E → ⊥) → ReadsFirst (afterOpcode cpu opcode)
+pub reads-first : (edition : Edition) (cpu : Processor) (opcode : ℕ) → opcode < 256 → (opcode ≡ 0x6E → ⊥)
+    → ReadsFirst (afterOpcode edition cpu opcode)
 unfolding readFor
-reads-first cpu opcode h other =
-    reads-then (gatherOf (rowOf opcode .mode) opcode (onward cpu)) (λ o. record { opcode = opcode; operands = o }) (λ b. finishOf (madeOf b))
-    (mode-reads (rowOf opcode .mode) opcode (onward cpu))
+reads-first edition cpu opcode h other =
+    reads-then (gatherOf edition (rowOf opcode .mode) opcode (onward cpu)) (λ o. record { opcode = opcode; operands = o }) (λ b. finishOf (madeOf b))
+    (mode-reads edition (rowOf opcode .mode) opcode (onward cpu))
     (λ o. let e = effectOf (rowOf opcode .operation) opcode o in finish-reads-first (e .cpu) (e .stores) (e .taken) (e .stop) (row-not-both opcode h other o))

@@ -7,6 +7,9 @@ use native.Mathlib.Omega.{arith}
 use Rattle.memory.specs.Words.{readWord}
 use Rattle.processor.specs.declared.Processor.{Processor}
 use Rattle.processor.specs.declared.Produced.{Produced}
+use Rattle.editions.specs.Editions.{secondAt}
+use Rattle.editions.specs.declared.Edition.{Edition}
+use Rattle.editions.specs.declared.Edition.the-variants.{First, Second}
 use Rattle.modes.specs.Addresses.{onward}
 use Rattle.modes.specs.Modes.{fetch, fetchWord, direct, directWord, indirect, pointed, pointerX, pointerY, absolute, absolutePointer, bitOperand}
 use Rattle.modes.specs.Stack.{raised, pull, pullWord}
@@ -101,21 +104,26 @@ pub in-absolute : (index : ℕ) {cpu : Processor} → Fits cpu → Within HasAdd
 unfolding absolute
 in-absolute index c = follow (fetched-word c) (λ f d. ends (record { cpu = d .cpu; at = below-65536 _ }))
 
-by-pointer : (index : ℕ) (d : Addressed) → HasAddress d → Within HasAddress (pointed index d)
+second-inside : (edition : Edition) (at : ℕ) → at < 65536 → secondAt edition at < 65536
+second-inside First at h = below-65536 _
+second-inside Second at h = omega arith
+
+by-pointer : (edition : Edition) (index : ℕ) (d : Addressed) → HasAddress d → Within HasAddress (pointed edition index d)
 unfolding pointed
-by-pointer index d h = follow (word-at (d .at) (h .at)) (λ word w. ends (record { cpu = h .cpu; at = below-65536 _ }))
+by-pointer edition index d h =
+    reads (h .at) (λ low l. reads (second-inside edition (d .at) (h .at)) (λ high b. ends (record { cpu = h .cpu; at = below-65536 _ })))
 
-pub by-pointer-x : {cpu : Processor} → Fits cpu → Within HasAddress (pointerX cpu)
+pub by-pointer-x : (edition : Edition) {cpu : Processor} → Fits cpu → Within HasAddress (pointerX edition cpu)
 unfolding pointerX
-by-pointer-x c = follow (in-direct _ c) (by-pointer _)
+by-pointer-x edition c = follow (in-direct _ c) (by-pointer edition _)
 
-pub by-pointer-y : {cpu : Processor} → Fits cpu → Within HasAddress (pointerY cpu)
+pub by-pointer-y : (edition : Edition) {cpu : Processor} → Fits cpu → Within HasAddress (pointerY edition cpu)
 unfolding pointerY
-by-pointer-y c = follow (in-direct _ c) (by-pointer _)
+by-pointer-y edition c = follow (in-direct _ c) (by-pointer edition _)
 
 pub by-absolute-pointer : {cpu : Processor} → Fits cpu → Within HasAddress (absolutePointer cpu)
 unfolding absolutePointer
-by-absolute-pointer c = follow (in-absolute _ c) (by-pointer _)
+by-absolute-pointer c = follow (in-absolute _ c) (λ a h. follow (word-at (a .at) (h .at)) (λ word w. ends (record { cpu = h .cpu; at = w })))
 
 pub in-bits : {cpu : Processor} → Fits cpu → Within HasBit (bitOperand cpu)
 unfolding bitOperand

@@ -1,4 +1,4 @@
--- The sixteen worked cases of document 01, and one statement that proves them all by computing.
+-- The sixteen worked cases of document 01, the last one's twin of document 02, and one statement that proves them all by computing.
 -- Assumes nothing.
 use Prim.Native.Nat.{ℕ}
 use mathlib.Core.Path.{_≡_, refl}
@@ -12,12 +12,13 @@ use Rattle.processor.specs.Products.{divOf}
 use Rattle.processor.specs.Decimal.{daaOf, dasOf}
 use Rattle.processor.specs.declared.Processor.{Processor}
 use Rattle.processor.specs.declared.Produced.{Produced}
-use Rattle.memory.specs.Access.{then}
+use Rattle.memory.specs.Access.{Access}
 use Rattle.memory.specs.Access.Access.{done, readAt, storeAt}
-use Rattle.memory.specs.Words.{readWord}
+use Rattle.editions.specs.declared.Edition.the-variants.{First, Second}
 use Rattle.modes.specs.Addresses.{directAt, absoluteAt, bitAddress, bitNumber}
 use Rattle.modes.specs.Modes.{addressed, pointed}
 use Rattle.modes.specs.Stack.{push}
+use Rattle.modes.specs.declared.Addressed.{Addressed}
 
 -- what a definition gives, and what the document says
 infix 4 _is_
@@ -38,6 +39,11 @@ shown c = c .a ∷ c .y ∷ byteOf (c .psw) ∷ []
 
 abbrev pub result : Produced → List ℕ
 result p = p .byte ∷ byteOf (p .cpu .psw) ∷ []
+
+-- the address that two bytes give which are read at these places, the low one first
+abbrev pub pointerBytes : ℕ → ℕ → Access Addressed
+pointerBytes first second =
+    readAt first (λ low. readAt second (λ high. done (addressed (cpu 0 0 0 0 0) (absoluteAt (wordOf low high) 0))))
 
 -- A status byte is, from bit 7 to bit 0, N V P B H I Z C.
 unfoldable pub cases : List Claim
@@ -72,11 +78,13 @@ cases =
     (bitAddress (wordOf 0x34 0xB2) ∷ bitNumber (wordOf 0x34 0xB2) ∷ [] is 0x1234 ∷ 5 ∷ []) ∷
     -- 15. d+X, byte F0, X=20, P: 0110
     (directAt (flagsOf 0b0010_0000) 0xF0 0x20 is 0x0110) ∷
-    -- 16. [d]+Y at 00FF: pointer bytes 00FF, 0100
-    (pointed 0 (addressed (cpu 0 0 0 0 0) 0x00FF) is readAt 0x00FF (λ low. readAt 0x0100 (λ high. done (addressed (cpu 0 0 0 0 0) (absoluteAt (wordOf low high) 0))))) ∷
+    -- 16. [d]+Y at 00FF in edition 1: pointer bytes 00FF, 0100
+    (pointed First 0 (addressed (cpu 0 0 0 0 0) 0x00FF) is pointerBytes 0x00FF 0x0100) ∷
+    -- its twin of document 02, in edition 2: pointer bytes 00FF, 0000
+    (pointed Second 0 (addressed (cpu 0 0 0 0 0) 0x00FF) is pointerBytes 0x00FF 0x0000) ∷
     []
 
 pub sixteen-cases : All cases
-unfolding cases byteOf flagsOf leaves push pointed readWord then
+unfolding cases byteOf flagsOf leaves push pointed
 sixteen-cases =
-    (refl, (refl, (refl, (refl, (refl, (refl, (refl, (refl, (refl, (refl, (refl, (refl, (refl, (refl, (refl, (refl, tt))))))))))))))))
+    (refl, (refl, (refl, (refl, (refl, (refl, (refl, (refl, (refl, (refl, (refl, (refl, (refl, (refl, (refl, (refl, (refl, tt)))))))))))))))))

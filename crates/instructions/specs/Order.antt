@@ -10,6 +10,7 @@ use Rattle.memory.specs.Words.{nextOf}
 use Rattle.signed.specs.Displacement.{targetOf}
 use Rattle.processor.specs.Record.{withPc, minus, produced}
 use Rattle.processor.specs.declared.Processor.{Processor}
+use Rattle.editions.specs.declared.Edition.{Edition}
 use Rattle.modes.specs.Addresses.{onward}
 use Rattle.modes.specs.Branches.{branched}
 use Rattle.modes.specs.Modes.{fetch}
@@ -32,13 +33,13 @@ ReadsFirst (readAt a p) = (byte : ℕ) → ReadsFirst (p byte)
 ReadsFirst (storeAt a byte p) = OnlyStores p
 
 -- what follows the opcode in a step
-abbrev pub afterOpcode : Processor → ℕ → Access Stepped
-afterOpcode cpu opcode = then (readFor (produced (onward cpu) opcode)) (λ b. finishOf (madeOf b))
+abbrev pub afterOpcode : Edition → Processor → ℕ → Access Stepped
+afterOpcode edition cpu opcode = then (readFor edition (produced (onward cpu) opcode)) (λ b. finishOf (madeOf b))
 
 -- A step reads the opcode at PC, and then it does what follows.
-pub opcode-first : (cpu : Processor) → stepOf cpu ≡ readAt (cpu .pc) (afterOpcode cpu)
+pub opcode-first : (edition : Edition) (cpu : Processor) → stepOf edition cpu ≡ readAt (cpu .pc) (afterOpcode edition cpu)
 unfolding stepOf beginOf fetch then
-opcode-first cpu = refl
+opcode-first edition cpu = refl
 
 -- DBNZ d,rel where it branches: the byte less one is stored, and then the displacement at PC is read.
 pub dbnz-stores-first : (o : Operands) → eqb (minus (o .low) 1) 0 ≡ false

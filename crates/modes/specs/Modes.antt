@@ -3,6 +3,8 @@ use Prim.Native.Nat.{ℕ, _^_}
 use Rattle.memory.specs.Access.{Access, then}
 use Rattle.memory.specs.Access.Access.{done, readAt}
 use Rattle.memory.specs.Words.{readWord}
+use Rattle.editions.specs.Editions.{secondAt}
+use Rattle.editions.specs.declared.Edition.{Edition}
 use Rattle.psw.specs.Status.{bitOf}
 use Rattle.processor.specs.Record.{wordOf, produced}
 use Rattle.processor.specs.declared.Processor.{Processor}
@@ -42,24 +44,26 @@ directWord cpu =
 abbrev pub indirect : ℕ → Processor → Addressed
 indirect register cpu = addressed cpu (directAt (cpu .psw) register 0)
 
--- the pointer word at an address, plus an index: its second byte stands at the address plus one
-unfoldable pub pointed : ℕ → Addressed → Access Addressed
-pointed index d = then (readWord (d .at)) (λ word. done (addressed (d .cpu) (absoluteAt word index)))
+-- the pointer at an address, plus an index: the edition says where its second byte stands
+unfoldable pub pointed : Edition → ℕ → Addressed → Access Addressed
+pointed edition index d =
+    readAt (d .at)
+    (λ low. readAt (secondAt edition (d .at)) (λ high. done (addressed (d .cpu) (absoluteAt (wordOf low high) index))))
 
--- [d+X]: the pointer word at the indexed address. [d]+Y: the pointer word at the direct address, plus Y.
-unfoldable pub pointerX : Processor → Access Addressed
-pointerX cpu = then (direct (cpu .x) cpu) (pointed 0)
+-- [d+X]: the pointer at the indexed address. [d]+Y: the pointer at the direct address, plus Y.
+unfoldable pub pointerX : Edition → Processor → Access Addressed
+pointerX edition cpu = then (direct (cpu .x) cpu) (pointed edition 0)
 
-unfoldable pub pointerY : Processor → Access Addressed
-pointerY cpu = then (direct 0 cpu) (pointed (cpu .y))
+unfoldable pub pointerY : Edition → Processor → Access Addressed
+pointerY edition cpu = then (direct 0 cpu) (pointed edition (cpu .y))
 
 -- !a, !a+X, !a+Y: the operand word plus an index.
 unfoldable pub absolute : ℕ → Processor → Access Addressed
 absolute index cpu = then (fetchWord cpu) (λ f. done (addressed (f .cpu) (absoluteAt (f .at) index)))
 
--- [!a+X]: the word at a+X.
+-- [!a+X]: the word at a+X. It has no edition: its second byte stands at the next address, also behind the end of a page.
 unfoldable pub absolutePointer : Processor → Access Addressed
-absolutePointer cpu = then (absolute (cpu .x) cpu) (pointed 0)
+absolutePointer cpu = then (absolute (cpu .x) cpu) (λ a. then (readWord (a .at)) (λ word. done (addressed (a .cpu) word)))
 
 -- Mb: the address and the bit's number, both in the operand word.
 unfoldable pub bitOperand : Processor → Access BitAddressed

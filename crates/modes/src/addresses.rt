@@ -9,6 +9,7 @@ use crate::Addressed;
 use crate::BitAddressed;
 use crate::BitRead;
 use crate::WordAddressed;
+use editions::Edition;
 use processor::Processor;
 use processor::Produced;
 use psw::ProgramStatusWord;
@@ -139,12 +140,22 @@ pub fn iy(cpu: Processor) -> Addressed
     }
 }
 
-// The pointer word at an address, plus an index.
-fn pointer(d: Addressed, memory: &[u8], reads: &mut [u8], writes: &[u8], index: u8) -> Addressed
+// The pointer at an address of the direct page, plus an index. The edition says where its second byte stands.
+fn pointer(
+    d: Addressed,
+    edition: Edition,
+    memory: &[u8],
+    reads: &mut [u8],
+    writes: &[u8],
+    index: u8,
+) -> Addressed
     requires { ⌜ Ready memory reads writes ⌝ }
-    ensures { λ r. ⌜ Performs (pointed index d) memory reads writes r ⌝ }
+    ensures { λ r. ⌜ Performs (pointed edition index d) memory reads writes r ⌝ }
 {
-    let word = memory::read_u16(memory, reads, writes, d.at);
+    let low = memory::read(memory, reads, writes, d.at);
+    let second = editions::second_at(edition, d.at);
+    let high = memory::read(memory, reads, writes, second);
+    let word = high as u16 * 256 + low as u16;
     let cpu = d.cpu;
     Addressed {
         cpu,
@@ -153,21 +164,33 @@ fn pointer(d: Addressed, memory: &[u8], reads: &mut [u8], writes: &[u8], index: 
 }
 
 // [d+X]
-pub fn idx(cpu: Processor, memory: &[u8], reads: &mut [u8], writes: &[u8]) -> Addressed
+pub fn idx(
+    cpu: Processor,
+    edition: Edition,
+    memory: &[u8],
+    reads: &mut [u8],
+    writes: &[u8],
+) -> Addressed
     requires { ⌜ Ready memory reads writes ⌝ }
-    ensures { λ r. ⌜ Performs (pointerX cpu) memory reads writes r ⌝ }
+    ensures { λ r. ⌜ Performs (pointerX edition cpu) memory reads writes r ⌝ }
 {
     let at = dx(cpu, memory, reads, writes);
-    pointer(at, memory, reads, writes, 0)
+    pointer(at, edition, memory, reads, writes, 0)
 }
 
 // [d]+Y
-pub fn idy(cpu: Processor, memory: &[u8], reads: &mut [u8], writes: &[u8]) -> Addressed
+pub fn idy(
+    cpu: Processor,
+    edition: Edition,
+    memory: &[u8],
+    reads: &mut [u8],
+    writes: &[u8],
+) -> Addressed
     requires { ⌜ Ready memory reads writes ⌝ }
-    ensures { λ r. ⌜ Performs (pointerY cpu) memory reads writes r ⌝ }
+    ensures { λ r. ⌜ Performs (pointerY edition cpu) memory reads writes r ⌝ }
 {
     let at = d(cpu, memory, reads, writes);
-    pointer(at, memory, reads, writes, cpu.y)
+    pointer(at, edition, memory, reads, writes, cpu.y)
 }
 
 // !a plus an index.
@@ -213,13 +236,15 @@ pub fn absy(cpu: Processor, memory: &[u8], reads: &mut [u8], writes: &[u8]) -> A
     abs_off(cpu, memory, reads, writes, cpu.y)
 }
 
-// [!a+X]
+// [!a+X]: the word there, whatever the edition.
 pub fn iax(cpu: Processor, memory: &[u8], reads: &mut [u8], writes: &[u8]) -> Addressed
     requires { ⌜ Ready memory reads writes ⌝ }
     ensures { λ r. ⌜ Performs (absolutePointer cpu) memory reads writes r ⌝ }
 {
-    let at = absx(cpu, memory, reads, writes);
-    pointer(at, memory, reads, writes, 0)
+    let operand = absx(cpu, memory, reads, writes);
+    let next = operand.cpu;
+    let at = memory::read_u16(memory, reads, writes, operand.at);
+    Addressed { cpu: next, at }
 }
 
 // Mb: the address of a byte and the number of a bit.

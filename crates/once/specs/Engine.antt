@@ -2,11 +2,11 @@
 -- Assumes nothing.
 use mathlib.Core.List.{[], _∷_}
 use Rattle.engine.proofs as engine
-use Rattle.once.specs.Law.{One, second, third, fourth}
+use Rattle.once.specs.Law.{One, third, fourth, fifth}
 use Rattle.once.specs.Forms.{runs}
 
-pub step-once : One engine.step.Reads.Post (λ κ e. second e ∷ third e ∷ fourth e ∷ [])
+pub step-once : One engine.step.Reads.Post (λ κ e. third e ∷ fourth e ∷ fifth e ∷ [])
 step-once = record { same = runs }
 
-pub run-once : One engine.run.Reads.Post (λ κ e. second e ∷ third e ∷ fourth e ∷ [])
+pub run-once : One engine.run.Reads.Post (λ κ e. third e ∷ fourth e ∷ fifth e ∷ [])
 run-once = record { same = runs }

@@ -3,13 +3,13 @@
 use mathlib.Core.Path.{sym, _∙_}
 use mathlib.Core.List.{[], _∷_}
 use Rattle.exports.proofs as exports
-use Rattle.once.specs.Law.{One, first, second, third, fourth, fifth}
+use Rattle.once.specs.Law.{One, first, second, third, fourth, fifth, sixth}
 use Rattle.once.specs.Forms.{calls, fills}
 
-pub spc700-step-once : One exports.spc700_step.Reads.Post (λ κ e. first e ∷ second e ∷ third e ∷ fourth e ∷ [])
+pub spc700-step-once : One exports.spc700_step.Reads.Post (λ κ e. first e ∷ third e ∷ fourth e ∷ fifth e ∷ [])
 spc700-step-once = record { same = calls }
 
-pub spc700-run-once : One exports.spc700_run.Reads.Post (λ κ e. first e ∷ third e ∷ fourth e ∷ fifth e ∷ [])
+pub spc700-run-once : One exports.spc700_run.Reads.Post (λ κ e. first e ∷ fourth e ∷ fifth e ∷ sixth e ∷ [])
 spc700-run-once = record { same = calls }
 
 pub spc700-counts-once : One exports.spc700_counts.Reads.Post (λ κ. third)

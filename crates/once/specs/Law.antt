@@ -38,6 +38,9 @@ fourth e = now (e .1 .1 .1 .0)
 abbrev pub fifth : {A B C D E : Type 0} → A × (B × (C × (D × (Slice × E)))) → List ℕ
 fifth e = now (e .1 .1 .1 .1 .0)
 
+abbrev pub sixth : {A B C D E F : Type 0} → A × (B × (C × (D × (E × (Slice × F))))) → List ℕ
+sixth e = now (e .1 .1 .1 .1 .1 .0)
+
 -- ---- a function that answers a part of a slice
 
 -- Two outcomes that meet the contract for the same arguments show the same bytes.

@@ -11,6 +11,7 @@ pub mod State
 pub mod SpcFile
 pub mod Conversion
 pub mod Memory
+pub mod Editions
 pub mod Modes
 pub mod Gather
 pub mod Effects
@@ -20,3 +21,4 @@ pub mod OpcodeData
 pub mod Listing
 pub mod Exports
 pub mod Runner
+pub mod Stepper

@@ -40,10 +40,10 @@ ix-once = record { same = answers }
 pub iy-once : Answers modes.iy.Reads.Post
 iy-once = record { same = answers }
 
-pub idx-once : One modes.idx.Reads.Post (λ κ. third)
+pub idx-once : One modes.idx.Reads.Post (λ κ. fourth)
 idx-once = record { same = reads }
 
-pub idy-once : One modes.idy.Reads.Post (λ κ. third)
+pub idy-once : One modes.idy.Reads.Post (λ κ. fourth)
 idy-once = record { same = reads }
 
 pub abs-off-once : One modes.abs_off.Reads.Post (λ κ. third)

@@ -1,7 +1,8 @@
-// What a case asks: a step, or one of the functions on memory.
+// What a case asks: a step, or one of the functions on memory. Pointers are those of the first edition, which is the Rust crate's.
 ghost use Rattle.memory.specs.Contracts.{Ready};
 use crate::case::at;
 use crate::case::registers;
+use editions::Edition;
 use modes::Addressed;
 use modes::BitRead;
 use modes::WordAddressed;
@@ -92,7 +93,7 @@ fn kind(
 
 // A step, and why it stopped.
 fn step(cpu: Processor, memory: &mut [u8], reads: &mut [u8], writes: &mut [u8]) -> Answer {
-    let ran = engine::step(cpu, memory, reads, writes);
+    let ran = engine::step(cpu, 1, memory, reads, writes);
     let after = ran.cpu;
     Answer {
         cpu: after,
@@ -121,8 +122,8 @@ fn mode(
         5 => modes::dy(cpu, memory, reads, writes),
         6 => modes::ix(cpu),
         7 => modes::iy(cpu),
-        8 => modes::idx(cpu, memory, reads, writes),
-        9 => modes::idy(cpu, memory, reads, writes),
+        8 => modes::idx(cpu, Edition::First, memory, reads, writes),
+        9 => modes::idy(cpu, Edition::First, memory, reads, writes),
         10 => modes::abs_off(cpu, memory, reads, writes, index),
         11 => modes::abs(cpu, memory, reads, writes),
         12 => modes::absx(cpu, memory, reads, writes),

@@ -3,21 +3,20 @@
 -- Assumes nothing.
 use Prim.Native.Nat.{ℕ}
 use mathlib.Core.Path.{_≡_, refl}
-use mathlib.Core.Bool.{Bool, true, false, cond}
 use mathlib.Core.List.{List}
-use lib.Dec.{eqb}
 use lib.ListN.{length}
 use Rattle.laws.specs.Bytes.{bytes-zeros}
 use Rattle.marks.specs.Counts.{countsOf}
 use Rattle.marks.specs.Sums.{marksIn, Sums, sums}
 use Rattle.memory.specs.World.{World, Sized, world}
+use Rattle.editions.specs.declared.Edition.{Edition}
 use Rattle.processor.specs.declared.Processor.{Processor}
 use Rattle.runs.specs.Trace.{trace}
 use Rattle.runs.proofs.Trace.{run-replays, sized-replay}
 use Rattle.runs.proofs.Bitmaps.{Bitmaps, bytes-replay}
 use Rattle.runs.proofs.Exact.{fresh}
-use Rattle.engine.specs.Entry.{accepted, refused, refusalOf, countedStep, runOf}
-use Rattle.engine.specs.Provenance.{clear, played}
+use Rattle.engine.specs.Entry.{countedStep}
+use Rattle.engine.specs.Provenance.{clear, played, accepted-sized}
 use Rattle.runner.specs.Session.{closingText, closingOf}
 
 -- the three numbers of two maps add up to 01's count of each
@@ -27,13 +26,16 @@ Added w = Sums (w .reads) (w .writes) (countsOf (w .reads) (w .writes))
 added : (w : World) → Sized w → Bitmaps w → Added w
 added w s b = sums (w .reads) (w .writes) (s .reads) (s .writes) (b .reads) (b .writes)
 
-module _ (budget : ℕ) (cpu : Processor) (image : List ℕ) (size : length image ≡ 65536) where
+module _ (edition : Edition) (budget : ℕ) (cpu : Processor) (image : List ℕ) (size : length image ≡ 65536) where
   start : World
   start = world image clear clear
 
-  added-left : Added (played budget cpu image .left)
+  added-left : Added (played edition budget cpu image .left)
   unfolding start
-  added-left = go (eqb (refusalOf start) 0) (refusalOf start)
+  added-left =
+      let t = trace (countedStep edition) budget cpu start in
+      rw (accepted-sized edition budget cpu image size, run-replays (countedStep edition) budget cpu start)
+      (added _ (sized-replay t start sized) (bytes-replay t start bytes))
     where
       sized : Sized start
       sized = fresh image 8192 size refl .sized
@@ -41,18 +43,12 @@ module _ (budget : ℕ) (cpu : Processor) (image : List ℕ) (size : length imag
       bytes : Bitmaps start
       bytes = record { reads = bytes-zeros 8192; writes = bytes-zeros 8192 }
 
-      go : (b : Bool) (n : ℕ) → Added (cond b (accepted (runOf budget cpu start)) (refused n cpu start) .left)
-      go true n =
-          let t = trace countedStep budget cpu start in
-          rw (run-replays countedStep budget cpu start) (added _ (sized-replay t start sized) (bytes-replay t start bytes))
-      go false n = added start sized bytes
-
   -- What a run on an image of 65,536 bytes prints last: its numbers of addresses read and written are 01's counts of the maps that it left.
   pub closing-as-before :
-      closingOf (played budget cpu image)
-      ≡ closingText (played budget cpu image .result .cpu .psw)
-      (marksIn (played budget cpu image .left .reads))
-      (marksIn (played budget cpu image .left .writes))
-      (countsOf (played budget cpu image .left .reads) (played budget cpu image .left .writes) .both)
+      closingOf (played edition budget cpu image)
+      ≡ closingText (played edition budget cpu image .result .cpu .psw)
+      (marksIn (played edition budget cpu image .left .reads))
+      (marksIn (played edition budget cpu image .left .writes))
+      (countsOf (played edition budget cpu image .left .reads) (played edition budget cpu image .left .writes) .both)
   unfolding closingOf
   closing-as-before = rw (added-left .read, added-left .stored)

@@ -7,6 +7,8 @@ use native.Mathlib.Omega.{arith}
 use lib.Dec.{eqb}
 use Rattle.memory.specs.World.{World, world}
 use Rattle.memory.specs.Access.{Outcome}
+use Rattle.editions.specs.Editions.{numberOf, editionOf}
+use Rattle.editions.specs.declared.Edition.{Edition}
 use Rattle.processor.specs.declared.Processor.{Processor}
 use Rattle.engine.specs.Entry.{accepted, refused, refusalOf, runOf}
 use Rattle.engine.specs.Provenance.{clear, played}
@@ -18,12 +20,15 @@ pub record Small (budget : ℕ) (o : Outcome World Ran) : Type 0 where
   pub stop : o .result .stop ≤ 2
   pub steps : o .result .steps ≤ budget
 
-pub small : (budget : ℕ) (cpu : Processor) (image : List ℕ) → Small budget (played budget cpu image)
-small budget cpu image = go (eqb (refusalOf w) 0) (refusalOf w)
+pub small : (edition : Edition) (budget : ℕ) (cpu : Processor) (image : List ℕ) → Small budget (played edition budget cpu image)
+small edition budget cpu image = go (eqb (refusalOf (numberOf edition) w) 0) (refusalOf (numberOf edition) w)
   where
     w : World
     w = world image clear clear
 
-    go : (b : Bool) (n : ℕ) → Small budget (cond b (accepted (runOf budget cpu w)) (refused n cpu w))
-    go true n = record { stop = run-stop budget cpu w; steps = within-budget budget cpu w }
+    taken : Edition
+    taken = editionOf (numberOf edition)
+
+    go : (b : Bool) (n : ℕ) → Small budget (cond b (accepted (runOf taken budget cpu w)) (refused n cpu w))
+    go true n = record { stop = run-stop taken budget cpu w; steps = within-budget taken budget cpu w }
     go false n = record { stop = omega arith; steps = omega arith }

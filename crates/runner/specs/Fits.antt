@@ -4,13 +4,12 @@
 -- than addresses of any two maps (marks/specs/Sums).
 -- Assumes nothing.
 use Prim.Native.Nat.{ℕ, _+_, _<_, _≤_}
-use mathlib.Core.Path.{_≡_, refl}
+use mathlib.Core.Path.{_≡_}
 use mathlib.Core.Bool.{Bool, true, false, cond}
-use mathlib.Core.List.{List, []}
+use mathlib.Core.List.{List}
 use native.Mathlib.Omega.{arith}
 use lib.Dec.{eqb}
 use lib.ListN.{length, take, drop, length-append}
-use borrow.Author.Tests.{eqb-true}
 use Rattle.laws.specs.Bytes.{Bytes}
 use Rattle.text.specs.Line.{shown}
 use Rattle.text.specs.Quoted.{text}
@@ -21,10 +20,11 @@ use Rattle.marks.specs.Counts.{countsOf}
 use Rattle.marks.specs.Sums.{few}
 use Rattle.memory.specs.World.{World}
 use Rattle.memory.specs.Access.{Outcome}
+use Rattle.editions.specs.Editions.{isEdition, editionOf}
 use Rattle.state.specs.Registers.{registersOf}
 use Rattle.engine.specs.declared.Ran.{Ran}
 use Rattle.runner.specs.Bounds.{small}
-use Rattle.runner.specs.Session.{Session, budgetOf, runOn, openingOf, closingOf, sessionOf, reported}
+use Rattle.runner.specs.Session.{Session, editionByte, budgetOf, runOn, openingOf, closingOf, sessionOf, reported, refused}
 use Rattle.runner.specs.Told.{Told}
 use Rattle.runner.specs.declared.Report.{Report}
 
@@ -52,10 +52,10 @@ length-closing o =
 -- ---- the theorem
 
 module _ (input : List ℕ) (bytes : Bytes input) where
-  run-fits : length input ≡ 65547 → Fits (reported (take 11 input) (runOn input))
-  run-fits size =
-      let s = small (budgetOf input) (registersOf (take 7 (drop 4 input))) (drop 11 input) in
-      let most : budgetOf input < 4294967296 = omega (arith, bytes 0, bytes 1, bytes 2, bytes 3) in
+  run-fits : Fits (reported (take 12 input) (runOn input))
+  run-fits =
+      let s = small (editionOf (editionByte input)) (budgetOf input) (registersOf (take 7 (drop 5 input))) (drop 12 input) in
+      let most : budgetOf input < 4294967296 = omega (arith, bytes 1, bytes 2, bytes 3, bytes 4) in
       record {
         opening = omega (arith, length-opening (runOn input .result) (s .stop) (omega (arith, s .steps)));
         closing = omega (arith, length-closing (runOn input));
@@ -63,12 +63,13 @@ module _ (input : List ℕ) (bytes : Bytes input) where
 
   pub fits : Fits (sessionOf input)
   unfolding sessionOf
-  fits = go (eqb (length input) 65547) refl
+  fits = go (eqb (length input) 65548) (isEdition (editionByte input))
     where
-      go : (b : Bool) → eqb (length input) 65547 ≡ b
-          → Fits (cond b (reported (take 11 input) (runOn input)) (record { opening = text "refused 6\n"; closing = []; left = input }))
-      go true e = run-fits (eqb-true _ _ e)
-      go false e = record { opening = omega arith; closing = omega arith }
+      go : (b c : Bool)
+          → Fits (cond b (cond c (reported (take 12 input) (runOn input)) (refused (text "refused 9\n") input)) (refused (text "refused 6\n") input))
+      go true true = run-fits
+      go true false = record { opening = omega arith; closing = omega arith }
+      go false c = record { opening = omega arith; closing = omega arith }
 
   -- So the lines of a report show all of it.
   pub shows-all : {r : Report} {after : List ℕ} → Told (sessionOf input) r after

@@ -13,16 +13,20 @@ use Rattle.marks.specs.Counts.{countsOf}
 use Rattle.marks.specs.declared.Counted.{Counted}
 use Rattle.memory.specs.World.{World}
 use Rattle.memory.specs.Access.{Outcome}
+use Rattle.editions.specs.Editions.{isEdition, editionOf}
 use Rattle.state.specs.Registers.{registersOf}
 use Rattle.engine.specs.Provenance.{played}
 use Rattle.engine.specs.declared.Ran.{Ran}
 
--- The input: four bytes of budget, low first; A X Y SP PC-low PC-high PSW; the memory.
+-- The input: the number of the edition; four bytes of budget, low first; A X Y SP PC-low PC-high PSW; the memory.
+abbrev pub editionByte : List ℕ → ℕ
+editionByte input = getD input 0 0
+
 abbrev pub budgetOf : List ℕ → ℕ
-budgetOf input = getD input 0 0 + 256 * getD input 1 0 + 65536 * getD input 2 0 + 16777216 * getD input 3 0
+budgetOf input = getD input 1 0 + 256 * getD input 2 0 + 65536 * getD input 3 0 + 16777216 * getD input 4 0
 
 abbrev pub runOn : List ℕ → Outcome World Ran
-runOn input = played (budgetOf input) (registersOf (take 7 (drop 4 input))) (drop 11 input)
+runOn input = played (editionOf (editionByte input)) (budgetOf input) (registersOf (take 7 (drop 5 input))) (drop 12 input)
 
 -- The report: the stop, the steps and the registers; then the flags, and how many addresses were read, how many were written, and how many
 -- of these are both.
@@ -55,9 +59,13 @@ pub record Session : Type 0 where
 abbrev pub reported : List ℕ → Outcome World Ran → Session
 reported before o = record { opening = openingOf (o .result); closing = closingOf o; left = before ++ o .left .memory }
 
--- An input that is not 65,547 bytes gives the one line `refused 6`.
+-- An input that is refused gives one line, and stays as it was.
+abbrev pub refused : List ℕ → List ℕ → Session
+refused line input = record { opening = line; closing = []; left = input }
+
+-- `refused 6` exactly if the input is not 65,548 bytes; then `refused 9` exactly if its edition is neither 1 nor 2.
 unfoldable pub sessionOf : List ℕ → Session
 sessionOf input =
-    cond (eqb (length input) 65547)
-    (reported (take 11 input) (runOn input))
-    (record { opening = text "refused 6\n"; closing = []; left = input })
+    cond (eqb (length input) 65548)
+    (cond (isEdition (editionByte input)) (reported (take 12 input) (runOn input)) (refused (text "refused 9\n") input))
+    (refused (text "refused 6\n") input)

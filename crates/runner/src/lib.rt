@@ -3,8 +3,11 @@ mod lines;
 
 ghost use Prim.Native.Nat.{_+_, _*_};
 ghost use mathlib.Core.Path.{_≡_};
+ghost use mathlib.Core.Bool.{true};
 ghost use mathlib.Core.List.{[]};
-ghost use lib.ListN.{length, take};
+ghost use lib.ListN.{length, getD, take};
+ghost use Rattle.text.specs.Line.{blank};
+ghost use Rattle.editions.specs.Editions.{isEdition, editionOf};
 ghost use Rattle.engine.specs.Provenance.{played};
 ghost use Rattle.runner.specs.Session.{budgetOf, runOn, reported, sessionOf};
 ghost use Rattle.runner.specs.Told.{Tells};
@@ -24,21 +27,22 @@ fn number(b0: u8, b1: u8, b2: u8, b3: u8) -> u32
     b0 as u32 + 256 * b1 as u32 + 65536 * b2 as u32 + 16777216 * b3 as u32
 }
 
-// The budget, which the input's first four bytes hold.
+// The budget, which stands behind the edition.
 fn budget(input: &[u8]) -> u32
-    requires { ⌜ length (now input) ≡ 65547 ⌝ }
+    requires { ⌜ length (now input) ≡ 65548 ⌝ }
     ensures { λ r. ⌜ r ≡ budgetOf (now (input .entry)) ⌝ }
 {
-    number(input[0], input[1], input[2], input[3])
+    number(input[1], input[2], input[3], input[4])
 }
 
-// Runs from clear maps, and reports.
-fn run_on(cpu: Processor, memory: &mut [u8], budget: u32) -> Report
-    ensures { λ r. ⌜ Tells (λ image. reported [] (played budget cpu image)) memory r ⌝ }
+// Runs in an edition from clear maps, and reports.
+fn run_on(cpu: Processor, edition: u8, memory: &mut [u8], budget: u32) -> Report
+    requires { ⌜ isEdition edition ≡ true ⌝ }
+    ensures { λ r. ⌜ Tells (λ image. reported [] (played (editionOf edition) budget cpu image)) memory r ⌝ }
 {
     let mut reads = [0u8; 8192];
     let mut writes = [0u8; 8192];
-    let ran = engine::run(cpu, memory, &mut reads, &mut writes, budget);
+    let ran = engine::run(cpu, edition, memory, &mut reads, &mut writes, budget);
     let next = ran.cpu;
     let counted = marks::counts(&reads, &writes);
     let both = counted.both;
@@ -50,25 +54,38 @@ fn run_on(cpu: Processor, memory: &mut [u8], budget: u32) -> Report
     }
 }
 
-// Runs an input of the right length.
+// Runs an input of the right length, with an edition that there is.
 fn accepted(input: &mut [u8]) -> Report
-    requires { ⌜ length (now input) ≡ 65547 ⌝ }
-    ensures { λ r. ⌜ Tells (λ bytes. reported (take 11 bytes) (runOn bytes)) input r ⌝ }
+    requires { ⌜ length (now input) ≡ 65548 ⌝ }
+    requires { ⌜ isEdition (getD (now input) 0 0) ≡ true ⌝ }
+    ensures { λ r. ⌜ Tells (λ bytes. reported (take 12 bytes) (runOn bytes)) input r ⌝ }
 {
+    let edition = input[0];
     let budget = budget(input);
-    let cpu = state::registers(&input[4..11]);
-    run_on(cpu, &mut input[11..], budget)
+    let cpu = state::registers(&input[5..12]);
+    run_on(cpu, edition, &mut input[12..], budget)
 }
 
-// Runs the input, in whose bytes the memory stands, from clear maps, and reports. An input of a wrong length gives `refused 6`.
+// A report of one line.
+fn alone(line: Line) -> Report
+    ensures { λ r. ⌜ r ≡ record { opening = line; closing = blank } ⌝ }
+{
+    Report {
+        opening: line,
+        closing: Line::new(),
+    }
+}
+
+// Runs the input, in whose bytes the memory stands, from clear maps, and reports. An input of a wrong length gives `refused 6`, one with an
+// edition that is neither 1 nor 2 `refused 9`.
 pub fn session(input: &mut [u8]) -> Report
     ensures { λ r. ⌜ Tells sessionOf input r ⌝ }
 {
-    if input.len() != 65547 {
-        return Report {
-            opening: Line::new().text(b"refused 6\n"),
-            closing: Line::new(),
-        };
+    if input.len() != 65548 {
+        return alone(Line::new().text(b"refused 6\n"));
+    }
+    if !editions::is_edition(input[0]) {
+        return alone(Line::new().text(b"refused 9\n"));
     }
     accepted(input)
 }

@@ -23,8 +23,11 @@ same-length-3 c = search needs
 returns : tie.Need-returns
 returns c = search (needs, refuses)
 
+edition-of-requires : tie.Need-edition-of-requires
+edition-of-requires c κs = search needs
+
 take-steps-requires : tie.Need-take-steps-requires
-take-steps-requires c κs = search sized
+take-steps-requires c κs = sized _ _ (c .before .before .before .before .if1 .left) (c .before .before .before .before .before .refusal-of .ensures)
 
 same-length-4 : tie.Need-same-length-4
 same-length-4 c = search needs
@@ -48,6 +51,7 @@ run-spec =
     same-length-2
     same-length-3
     returns
+    edition-of-requires
     take-steps-requires
     same-length-4
     same-length-5

@@ -4,18 +4,17 @@
 use mathlib.Core.Logic.{⊎-elim}
 use native.Mathlib.Omega.{arith}
 use borrow.Author.Needs.{needs}
-use borrow.Author.Tests.{ltb-true}
 use Rattle.memory.specs.World.{world}
 use Rattle.engine.proofs.SoFar.{SoFar, begun, one-more, stopped, spent}
 use Rattle.engine.proofs.take_steps.Statement.{statement}
 use Rattle.engine.proofs.take_steps.Tie as tie
 
 abbrev Inv-loop : tie.InvT-loop
-Inv-loop memory₀ reads₀ writes₀ budget next₀ left₀ stop₀ memory reads writes next left stop =
-    SoFar budget next₀ (world memory₀ reads₀ writes₀) next left stop (world memory reads writes)
+Inv-loop edition memory₀ reads₀ writes₀ budget next₀ left₀ stop₀ memory reads writes next left stop =
+    SoFar edition budget next₀ (world memory₀ reads₀ writes₀) next left stop (world memory reads writes)
 
 abbrev μ-loop : tie.MeasureT-loop
-μ-loop memory₀ reads₀ writes₀ budget next₀ left₀ stop₀ memory reads writes next left stop = left
+μ-loop edition memory₀ reads₀ writes₀ budget next₀ left₀ stop₀ memory reads writes next left stop = left
 
 loop-holds : tie.Need-loop-holds Inv-loop μ-loop
 loop-holds c = search (needs, begun)
@@ -24,10 +23,10 @@ instruction-requires : tie.Need-instruction-requires Inv-loop μ-loop
 instruction-requires c κs = search needs
 
 sub-left : tie.Need-sub-left Inv-loop μ-loop
-sub-left c = omega (arith, ltb-true)
+sub-left c = search needs
 
 loop-less : tie.Need-loop-less Inv-loop μ-loop
-loop-less c = omega (arith, ltb-true)
+loop-less c = omega arith
 
 loop-again : tie.Need-loop-again Inv-loop μ-loop
 loop-again c = search (needs, one-more)
@@ -45,7 +44,7 @@ same-length-3 : tie.Need-same-length-3 Inv-loop μ-loop
 same-length-3 c = search needs
 
 returns : tie.Need-returns Inv-loop μ-loop
-returns c = ⊎-elim (λ t. search (needs, spent)) (λ t. search (needs, stopped)) (c .loop-test .came)
+returns c = ⊎-elim (λ t. search (needs, stopped)) (λ t. search (needs, spent)) (c .loop-test .came)
 
 pub take-steps-spec : {M : Type 1} → statement M
 take-steps-spec =

@@ -1,5 +1,6 @@
 -- Past the test of the registers' length it is the engine's step, which is its run of budget 1, handed back.
 -- Assumes nothing.
+use Prim.Native.Nat.{ℕ}
 use borrow.Author.Needs.{needs}
 use mathlib.Core.Path.{_≡_, _∙_}
 use Rattle.memory.specs.World.{World}
@@ -12,8 +13,8 @@ use Rattle.exports.proofs.Laws.{not-seven, seven}
 use Rattle.exports.proofs.spc700_step.Statement.{statement}
 use Rattle.exports.proofs.spc700_step.Tie as tie
 
-as-run : {q : Outcome World Ran} (cpu : Processor) (w : World) → q ≡ stepAnswer cpu w → q ≡ runAnswer 1 cpu w
-as-run cpu w e = e ∙ step-is-run-of-one cpu w
+as-run : {q : Outcome World Ran} (number : ℕ) (cpu : Processor) (w : World) → q ≡ stepAnswer number cpu w → q ≡ runAnswer number 1 cpu w
+as-run number cpu w e = e ∙ step-is-run-of-one number cpu w
 
 packed-requires : tie.Need-packed-requires
 packed-requires c κs = search needs

@@ -121,49 +121,49 @@ same-length : tie.Need-same-length
 same-length c = search needs
 
 returns : tie.Need-returns
-returns c = search needs
+returns c = search (needs, c .before .before .column-09 .ensures)
 
 same-length-2 : tie.Need-same-length-2
 same-length-2 c = search needs
 
 returns-2 : tie.Need-returns-2
-returns-2 c = search needs
+returns-2 c = search (needs, c .before .before .column-0d .ensures)
 
 same-length-3 : tie.Need-same-length-3
 same-length-3 c = search needs
 
 returns-3 : tie.Need-returns-3
-returns-3 c = search needs
+returns-3 c = search (needs, c .before .before .column-0e .ensures)
 
 same-length-4 : tie.Need-same-length-4
 same-length-4 c = search needs
 
 returns-4 : tie.Need-returns-4
-returns-4 c = search needs
+returns-4 c = search (needs, c .before .before .column-0f .ensures)
 
 same-length-5 : tie.Need-same-length-5
 same-length-5 c = search needs
 
 returns-5 : tie.Need-returns-5
-returns-5 c = search needs
+returns-5 c = search (needs, c .before .before .column-18 .ensures)
 
 same-length-6 : tie.Need-same-length-6
 same-length-6 c = search needs
 
 returns-6 : tie.Need-returns-6
-returns-6 c = search needs
+returns-6 c = search (needs, c .before .before .column-19 .ensures)
 
 same-length-7 : tie.Need-same-length-7
 same-length-7 c = search needs
 
 returns-7 : tie.Need-returns-7
-returns-7 c = search needs
+returns-7 c = search (needs, c .before .before .column-1a .ensures)
 
 same-length-8 : tie.Need-same-length-8
 same-length-8 c = search needs
 
 returns-8 : tie.Need-returns-8
-returns-8 c = search needs
+returns-8 c = search (needs, c .before .before .column-1e .ensures)
 
 returns-9 : tie.Need-returns-9
 unfolding rows gatherOf
@@ -318,7 +318,7 @@ same-length-28 : tie.Need-same-length-28
 same-length-28 c = search needs
 
 returns-32 : tie.Need-returns-32
-returns-32 c = search needs
+returns-32 c = search (needs, c .before .before .column-1f .ensures)
 
 pub gather-spec : {M : Type 1} → statement M
 gather-spec =

@@ -1,4 +1,4 @@
--- The parts of the input are the budget, the registers and the memory; the memory that the run leaves goes back to its place, with
+-- The parts of the input are the edition, the budget, the registers and the memory; the memory that the run leaves goes back to its place, with
 -- nothing behind it.
 -- Assumes nothing.
 use Prim.Native.Nat.{ℕ, _-_, _≤_}
@@ -11,26 +11,30 @@ use borrow.Author.Needs.{needs}
 use borrow.Rule.Slice.PartAt.{part-to-end}
 use borrow.Rule.Slice.PartMut.{putMid, post-is}
 use Rattle.processor.specs.declared.Processor.{Processor}
+use Rattle.editions.specs.Editions.{editionOf}
 use Rattle.state.specs.Registers.{registersOf}
 use Rattle.engine.specs.Provenance.{played}
-use Rattle.runner.specs.Session.{budgetOf, runOn, reported}
+use Rattle.runner.specs.Session.{editionByte, budgetOf, runOn, reported}
 use Rattle.runner.specs.Told.{Told}
 use Rattle.runner.specs.declared.Report.{Report}
 use Rattle.runner.proofs.accepted.Statement.{statement}
 use Rattle.runner.proofs.accepted.Tie as tie
 
 -- A part up to the end, put back, has nothing behind it.
-put-back : (input memory : List ℕ) → 11 ≤ length input → putMid 11 (length input - 11) input memory ≡ take 11 input ++ memory
-put-back input memory h = rw (post-is 11 (length input) input h, drop-length input, append-nil memory)
+put-back : (input memory : List ℕ) → 12 ≤ length input → putMid 12 (length input - 12) input memory ≡ take 12 input ++ memory
+put-back input memory h = rw (post-is 12 (length input) input h, drop-length input, append-nil memory)
 
 -- A run on the input's parts is the run on the input.
-placed : (input : List ℕ) {budget : ℕ} {cpu : Processor} {part memory : List ℕ} {r : Report} → length input ≡ 65547
-    → budget ≡ budgetOf input → cpu ≡ registersOf (take 7 (drop 4 input)) → part ≡ drop 11 input
-    → Told (reported [] (played budget cpu part)) r memory
-    → Told (reported (take 11 input) (runOn input)) r (putMid 11 (length input - 11) input memory)
+placed : (input : List ℕ) {budget : ℕ} {cpu : Processor} {part memory : List ℕ} {r : Report} → length input ≡ 65548
+    → budget ≡ budgetOf input → cpu ≡ registersOf (take 7 (drop 5 input)) → part ≡ drop 12 input
+    → Told (reported [] (played (editionOf (editionByte input)) budget cpu part)) r memory
+    → Told (reported (take 12 input) (runOn input)) r (putMid 12 (length input - 12) input memory)
 placed input {memory = memory} size b c p t =
     let s = rw (b, c, p) at t in
     record { opening = s .opening; closing = s .closing; left = rw (put-back input memory (omega arith), s .left) }
+
+slice-read-edition : tie.Need-slice-read-edition
+slice-read-edition c = search needs
 
 budget-requires : tie.Need-budget-requires
 budget-requires c κs = search needs
@@ -69,6 +73,7 @@ pub accepted-spec : {M : Type 1} → statement M
 accepted-spec =
     tie.close
     (tie.spec
+    slice-read-edition
     budget-requires
     sub-registers
     part-registers-start

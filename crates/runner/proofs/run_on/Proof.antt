@@ -2,6 +2,7 @@
 -- Assumes nothing.
 use Prim.Native.Nat.{ℕ, _+_}
 use mathlib.Core.Path.{_≡_, refl}
+use mathlib.Core.Bool.{true}
 use mathlib.Core.List.{List, []}
 use native.Mathlib.Omega.{arith}
 use borrow.Author.Needs.{needs}
@@ -12,8 +13,13 @@ use Rattle.text.specs.declared.Line.{Line}
 use Rattle.marks.specs.Counts.{countsOf}
 use Rattle.marks.specs.Sums.{few}
 use Rattle.marks.specs.declared.Counted.{Counted}
-use Rattle.memory.specs.World.{World, world}
-use Rattle.memory.specs.Access.{Outcome, outcome}
+use Rattle.memory.specs.World.{world}
+use Rattle.memory.specs.Access.{outcome}
+use Rattle.editions.specs.Editions.{isEdition, editionOf}
+use Rattle.editions.specs.Theorems.{edition-and-back}
+use Rattle.processor.specs.declared.Processor.{Processor}
+use Rattle.engine.specs.Entry.{runAnswer}
+use Rattle.engine.specs.Provenance.{clear, played}
 use Rattle.engine.specs.declared.Ran.{Ran}
 use Rattle.runner.specs.Session.{openingOf, closingOf, reported, countedText}
 use Rattle.runner.specs.Told.{Told}
@@ -21,12 +27,14 @@ use Rattle.runner.proofs.run_on.Statement.{statement}
 use Rattle.runner.proofs.run_on.Tie as tie
 
 -- A run, the counts of the maps that it left, and the two lines that were made of it.
-told : {o : Outcome World Ran} {ran : Ran} {memory reads writes : List ℕ} {counted : Counted} {opening closing : Line}
-    → outcome ran (world memory reads writes) ≡ o → counted ≡ countsOf reads writes
+told : (number budget : ℕ) (cpu : Processor) (image : List ℕ) {ran : Ran} {memory reads writes : List ℕ} {counted : Counted}
+    {opening closing : Line} → isEdition number ≡ true
+    → outcome ran (world memory reads writes) ≡ runAnswer number budget cpu (world image clear clear) → counted ≡ countsOf reads writes
     → opening ≡ adds blank (openingOf ran) → closing ≡ adds blank (countedText (ran .cpu .psw) counted)
-    → Told (reported [] o) (record { opening = opening; closing = closing }) memory
+    → Told (reported [] (played (editionOf number) budget cpu image)) (record { opening = opening; closing = closing }) memory
 unfolding closingOf
-told e counts opening closing = rw (← e) (record { opening = opening; closing = rw (closing, counts); left = refl })
+told number budget cpu image known e counts opening closing =
+    rw (edition-and-back number known, ← e) (record { opening = opening; closing = rw (closing, counts); left = refl })
 
 -- The sums of what was counted fit.
 module _ (reads writes : List ℕ) {counted : Counted} (e : counted ≡ countsOf reads writes) where

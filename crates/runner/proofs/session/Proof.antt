@@ -1,30 +1,45 @@
--- The one test is the definition's; nothing is stored in an input of a wrong length.
+-- The two tests are the definition's; nothing is stored in an input that is refused.
 -- Assumes nothing.
 use Prim.Native.Nat.{ℕ}
-use mathlib.Core.Path.{_≡_, refl}
+use mathlib.Core.Bool.{Bool, true, false, not}
+use mathlib.Core.Path.{_≡_, refl, sym, _∙_}
 use mathlib.Core.List.{List}
 use lib.ListN.{length, take}
 use borrow.Author.Needs.{needs}
-use borrow.Author.Tests.{eq-eqb, ne-eqb}
+use borrow.Author.Tests.{eq-eqb, ne-eqb, not-true, not-false}
+use Rattle.editions.specs.Editions.{isEdition}
 use Rattle.text.specs.Line.{blank, adds}
 use Rattle.text.specs.Quoted.{text}
 use Rattle.text.specs.declared.Line.{Line}
-use Rattle.runner.specs.Session.{runOn, sessionOf, reported}
+use Rattle.runner.specs.Session.{editionByte, runOn, sessionOf, reported, refused}
 use Rattle.runner.specs.Told.{Told}
 use Rattle.runner.specs.declared.Report.{Report}
 use Rattle.runner.proofs.session.Statement.{statement}
 use Rattle.runner.proofs.session.Tie as tie
 
-refuses : (input : List ℕ) {first opening closing : Line} → (length input ≡ 65547 → ⊥)
-    → first ≡ blank → opening ≡ adds first (text "refused 6\n") → closing ≡ blank
-    → Told (sessionOf input) (record { opening = opening; closing = closing }) input
-unfolding sessionOf adds
-refuses input n f o c = rw (ne-eqb _ _ n) (record { opening = rw (o, f); closing = c; left = refl })
+module _ (input : List ℕ) where
+  -- a line alone, of which the text was written on a new one
+  says : (line : List ℕ) {first opening : Line} {r : Report} → first ≡ blank → opening ≡ adds first line
+      → r ≡ record { opening = opening; closing = blank } → Told (refused line input) r input
+  unfolding adds
+  says line f o e = rw (e, o, f) (record { opening = refl; closing = refl; left = refl })
 
-accepts : (input : List ℕ) {after : List ℕ} {r : Report} → length input ≡ 65547
-    → Told (reported (take 11 input) (runOn input)) r after → Told (sessionOf input) r after
-unfolding sessionOf
-accepts input e t = rw (eq-eqb _ _ e) t
+  wrong-length : {r : Report} → (length input ≡ 65548 → ⊥) → Told (refused (text "refused 6\n") input) r input → Told (sessionOf input) r input
+  unfolding sessionOf
+  wrong-length n t = rw (ne-eqb _ _ n) t
+
+  module _ (size : length input ≡ 65548) {known : Bool} (e : known ≡ isEdition (editionByte input)) where
+    no-edition : {r : Report} → not known ≡ true → Told (refused (text "refused 9\n") input) r input → Told (sessionOf input) r input
+    unfolding sessionOf
+    no-edition n t = let none = sym e ∙ not-true known n in rw (eq-eqb _ _ size, none) t
+
+    one : not known ≡ false → isEdition (editionByte input) ≡ true
+    one n = sym e ∙ not-false known n
+
+    accepts : {after : List ℕ} {r : Report} → not known ≡ false
+        → Told (reported (take 12 input) (runOn input)) r after → Told (sessionOf input) r after
+    unfolding sessionOf
+    accepts n t = rw (eq-eqb _ _ size, one n) t
 
 new-requires : tie.Need-new-requires
 new-requires c κs = search needs
@@ -35,20 +50,41 @@ slice-aggregate-text c = search needs
 text-requires : tie.Need-text-requires
 text-requires c κs = search needs
 
+alone-requires : tie.Need-alone-requires
+alone-requires c κs = search needs
+
+returns : tie.Need-returns
+returns c = search (needs, wrong-length, says)
+
+slice-read-is-edition : tie.Need-slice-read-is-edition
+slice-read-is-edition c = search needs
+
+is-edition-requires : tie.Need-is-edition-requires
+is-edition-requires c κs = search needs
+
 new-requires-2 : tie.Need-new-requires-2
 new-requires-2 c κs = search needs
 
-returns : tie.Need-returns
-returns c = search (needs, refuses)
+slice-aggregate-text-2 : tie.Need-slice-aggregate-text-2
+slice-aggregate-text-2 c = search needs
+
+text-requires-2 : tie.Need-text-requires-2
+text-requires-2 c κs = search needs
+
+alone-requires-2 : tie.Need-alone-requires-2
+alone-requires-2 c κs = search needs
+
+returns-2 : tie.Need-returns-2
+returns-2 c = search (needs, no-edition, says)
 
 accepted-requires : tie.Need-accepted-requires
-accepted-requires c κs = search needs
+accepted-requires c κs = search (needs, one)
 
 same-length : tie.Need-same-length
 same-length c = search needs
 
-returns-2 : tie.Need-returns-2
-returns-2 c = search (needs, accepts)
+returns-3 : tie.Need-returns-3
+returns-3 c = search (needs, accepts)
 
 pub session-spec : {M : Type 1} → statement M
 session-spec =
@@ -57,8 +93,15 @@ session-spec =
     new-requires
     slice-aggregate-text
     text-requires
-    new-requires-2
+    alone-requires
     returns
+    slice-read-is-edition
+    is-edition-requires
+    new-requires-2
+    slice-aggregate-text-2
+    text-requires-2
+    alone-requires-2
+    returns-2
     accepted-requires
     same-length
-    returns-2)
+    returns-3)

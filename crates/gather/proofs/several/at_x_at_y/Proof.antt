@@ -10,11 +10,12 @@ use Rattle.modes.specs.declared.Addressed.{Addressed}
 use Rattle.instructions.specs.Rows.Mode.{atXatY}
 use Rattle.instructions.specs.declared.Operands.{Operands}
 use Rattle.instructions.specs.Gather.{bothLoaded, gatherOf}
+use Rattle.gather.specs.Columns.{plainly}
 use Rattle.gather.proofs.several.at_x_at_y.Statement.{statement}
 use Rattle.gather.proofs.several.at_x_at_y.Tie as tie
 
 from-registers : (cpu : Processor) {f g : Addressed} {w : World} {o : Outcome World Operands}
-    → f ≡ indirect (cpu .y) cpu → g ≡ indirect (cpu .x) cpu → Does (bothLoaded (f .at) g) w o → Does (gatherOf atXatY 0 cpu) w o
+    → f ≡ indirect (cpu .y) cpu → g ≡ indirect (cpu .x) cpu → Does (bothLoaded (f .at) g) w o → Does (plainly atXatY cpu) w o
 unfolding gatherOf
 from-registers cpu e h does = rw (e, h) at does
 

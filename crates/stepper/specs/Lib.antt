@@ -1,0 +1,4 @@
+pub mod Alike
+pub mod Session
+pub mod Theorems
+pub mod Fits
