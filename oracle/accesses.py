@@ -1,4 +1,4 @@
-"""The accesses of a step, and of each function on memory, by the definition: which bytes are read and stored, and in which order.
+"""The accesses of a step, and of each function on memory, by the definition in edition 1: which bytes are read and stored, in which order.
 
 Our program shows which addresses were read and what was stored, but not the order of reads. The order is the definition's, so it is
 taken from there: the rows are read out of crates/instructions/specs/Rows.antt itself; what a row's mode reads is Gather.antt, what its

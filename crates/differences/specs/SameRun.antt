@@ -22,8 +22,8 @@ module _ (edition : Edition) (budget : ℕ) (cpu : Processor) (image second : Li
   abbrev pub readMap : List ℕ
   readMap = played edition budget cpu image .left .reads
 
-  -- If no stretch touches one of its marks, the second image gives the same run in that edition: the same registers, step count, stop and maps, and equal
-  -- bytes wherever a step stored; at every other address each run leaves its own image's byte.
+  -- If no stretch touches one of its marks, the second image gives the same run in that edition: the same registers, step count, stop and
+  -- maps, and equal bytes wherever a step stored; at every other address each run leaves its own image's byte.
   pub same-run : length image ≡ 65536 → length second ≡ 65536 → touched (isMarked readMap) (stretchesOf image second) ≡ false
       → Same image second (played edition budget cpu image) (played edition budget cpu second)
   same-run size other none = provenance edition budget cpu image size second other (untouched image second (isMarked readMap) none)

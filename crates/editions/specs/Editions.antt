@@ -6,8 +6,8 @@ use Rattle.memory.specs.Words.{nextOf}
 use Rattle.editions.specs.declared.Edition.{Edition}
 use Rattle.editions.specs.declared.Edition.the-variants.{First, Second}
 
--- Where the second byte of a pointer of [d+X] and [d]+Y stands, by where its first byte stands. Edition 1, which is the Rust crate's: at the
--- next address. Edition 2, which captures from the part show: at the next address of the same page, so behind 00FF comes 0000, behind
+-- Where the second byte of a pointer of [d+X] and [d]+Y stands, by where its first byte stands. In edition 1, which is the Rust crate's, at
+-- the next address. In edition 2, which captures from the part show, at the next address of the same page: behind 00FF comes 0000, behind
 -- 01FF comes 0100.
 abbrev pub secondAt : Edition → ℕ → ℕ
 secondAt First at = nextOf at

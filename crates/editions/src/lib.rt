@@ -20,7 +20,11 @@ pub fn is_edition(number: u8) -> bool
 pub fn edition_of(number: u8) -> Edition
     ensures { λ r. ⌜ r ≡ editionOf number ⌝ }
 {
-    if number == 2 { Edition::Second } else { Edition::First }
+    if number == 2 {
+        Edition::Second
+    } else {
+        Edition::First
+    }
 }
 
 // Where the second byte of a pointer stands whose first byte stands at an address.

@@ -19,8 +19,8 @@ use Rattle.runs.specs.Trace.{taken}
 use Rattle.runs.proofs.Run.{run-next, stopped-by}
 use Rattle.engine.specs.Entry.{ran, accepted, countedStep, runOf}
 
--- Of a run in an edition with a budget, from a record and a world, so much of the budget is left; the steps so far gave this record and this stop, and
--- left this world.
+-- Of a run in an edition with a budget, from a record and a world, so much of the budget is left; the steps so far gave this record and this
+-- stop, and left this world.
 pub record SoFar (edition : Edition) (budget : ℕ) (cpu : Processor) (w : World) (next : Processor) (left stop : ℕ) (now : World) : Type 0 where
   pub sized : Sized now
   pub within : left ≤ budget

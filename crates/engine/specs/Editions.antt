@@ -59,6 +59,7 @@ hasPointer pulled = false
 hasPointer pulledWord = false
 hasPointer pulledThree = false
 
+-- Every other mode reads the same in both editions.
 plain : (m : Mode) → hasPointer m ≡ false → (opcode : ℕ) (cpu : Processor) → gatherOf First m opcode cpu ≡ gatherOf Second m opcode cpu
 unfolding gatherOf
 plain implied e opcode cpu = refl

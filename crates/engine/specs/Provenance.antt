@@ -9,7 +9,7 @@ use mathlib.Core.List.{List}
 use lib.ListN.{length, getD, replicate}
 use borrow.Author.Tests.{eq-eqb}
 use Rattle.marks.specs.Maps.{isMarked}
-use Rattle.memory.specs.World.{World, Sized, world}
+use Rattle.memory.specs.World.{World, world}
 use Rattle.memory.specs.Access.{Outcome}
 use Rattle.editions.specs.Editions.{numberOf}
 use Rattle.editions.specs.Theorems.{named, number-and-back}

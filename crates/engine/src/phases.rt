@@ -10,13 +10,7 @@ use instructions::Stores;
 use processor::Processor;
 
 // The opcode, and what its instruction reads before it stores.
-fn begin(
-    cpu: Processor,
-    edition: Edition,
-    memory: &[u8],
-    reads: &mut [u8],
-    writes: &[u8],
-) -> Begun
+fn begin(cpu: Processor, edition: Edition, memory: &[u8], reads: &mut [u8], writes: &[u8]) -> Begun
     requires { ⌜ Ready memory reads writes ⌝ }
     ensures { λ r. ⌜ Performs (beginOf edition cpu) memory reads writes r ⌝ }
 {

@@ -6,7 +6,6 @@ use Rattle.memory.specs.World.{World}
 use Rattle.memory.specs.Access.{then, Outcome, outcome, Does}
 use Rattle.memory.specs.Access.Access.{done}
 use Rattle.modes.specs.Modes as mode
-use Rattle.instructions.specs.Rows.{Mode}
 use Rattle.instructions.specs.Rows.Mode.{direct, toDirect, directX, toDirectX, directY, toDirectY, absolute, toAbsolute, absoluteX, toAbsoluteX, absoluteY, toAbsoluteY, pointerX, toPointerX, pointerY, toPointerY, atX, toX}
 use Rattle.memory.proofs.Laws.{ends-at}
 use Rattle.modes.specs.declared.Addressed.{Addressed}

@@ -6,7 +6,7 @@ use mathlib.Core.Bool.{Bool, true, false, cond}
 use mathlib.Core.List.{List, _++_}
 use native.Mathlib.Omega.{arith}
 use lib.Dec.{eqb}
-use lib.ListN.{length, take, drop, length-append, length-take}
+use lib.ListN.{length, drop, length-append, length-take}
 use Rattle.text.specs.Digits.{decimal}
 use Rattle.text.specs.Line.{shown}
 use Rattle.text.specs.Quoted.{text}
@@ -14,7 +14,8 @@ use Rattle.text.specs.declared.Line.{Line}
 use Rattle.text.proofs.Laws.{length-decimal, shown-adds}
 use Rattle.editions.specs.Editions.{isEdition}
 use Rattle.stepper.specs.Alike.{alike}
-use Rattle.stepper.specs.Session.{Session, Told, comparisonText, editionByte, outcomeOf, secondOf, compared, refused, sessionOf}
+use Rattle.stepper.specs.Session.{comparisonText, editionByte, outcomeOf, secondOf, compared, refused, sessionOf}
+use Rattle.stepper.specs.Told.{Told}
 use Rattle.stepper.specs.Theorems.{at-most-second}
 
 -- an offset has at most five digits

@@ -1,4 +1,5 @@
 pub mod Alike
 pub mod Session
+pub mod Told
 pub mod Theorems
 pub mod Fits

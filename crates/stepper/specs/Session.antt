@@ -1,16 +1,11 @@
 -- The program `step`: what it prints for an input.
 use Prim.Native.Nat.{ℕ}
 use mathlib.Core.Bool.{cond}
-use mathlib.Core.Path.{_≡_}
 use mathlib.Core.List.{List, _++_}
-use denote.Ref.{now}
 use lib.Dec.{eqb}
 use lib.ListN.{length, getD, take, drop}
-use Rattle.laws.specs.Lent.{Lent}
 use Rattle.text.specs.Digits.{decimal}
-use Rattle.text.specs.Line.{blank, adds}
 use Rattle.text.specs.Quoted.{text}
-use Rattle.text.specs.declared.Line.{Line}
 use Rattle.memory.specs.World.{World, world}
 use Rattle.memory.specs.Access.{Outcome}
 use Rattle.editions.specs.Editions.{numberOf, isEdition, editionOf}
@@ -31,8 +26,8 @@ unfoldable pub afterStep : Edition → List ℕ → List ℕ
 afterStep edition state =
     let o = stepped edition (registersOf (take 7 state)) (drop 7 state) in bytesOf (o .result .cpu) ++ o .left .memory
 
--- Of two records that begin alike with so many bytes: `same` if that is all of them, else the offset, 0 to 65,542, of the first byte at which
--- they differ, in decimal.
+-- Of two records that begin alike with so many bytes: `same` if that is all of them, else the offset, 0 to 65,542, of the first byte at
+-- which they differ, in decimal.
 abbrev pub comparisonText : ℕ → List ℕ
 comparisonText at = cond (eqb at 65543) (text "same\n") (decimal at ++ text "\n")
 
@@ -72,19 +67,3 @@ sessionOf input =
     cond (eqb (length input) 131087)
     (cond (isEdition (editionByte input)) (compared input) (refused (text "refused 9\n") input))
     (refused (text "refused 6\n") input)
-
--- The contract of a call on lent bytes, of which `tale` makes the session: the line that it answers, and what it leaves.
-pub record Told (s : Session) (r : Line) (after : List ℕ) : Type 0 where
-  pub printed : r ≡ adds blank (s .printed)
-  pub left : after ≡ s .left
-
-abbrev pub Tells : (List ℕ → Session) → Lent → Line → Type 0
-Tells tale input r = Told (tale (now (input .entry))) r (now (input .exit))
-
--- The contract of a step on a lent memory alone: the maps are not the caller's.
-pub record Stepped (o : Outcome World Ran) (r : Ran) (after : List ℕ) : Type 0 where
-  pub answer : r ≡ o .result
-  pub left : after ≡ o .left .memory
-
-abbrev pub Steps : (List ℕ → Outcome World Ran) → Lent → Ran → Type 0
-Steps step memory r = Stepped (step (now (memory .entry))) r (now (memory .exit))

@@ -3,7 +3,7 @@
 use Prim.Native.Nat.{ℕ, zero, suc, _<_, _≤_}
 use mathlib.Core.Bool.{Bool, true, false, cond}
 use mathlib.Core.Logic.{_↔_}
-use mathlib.Core.Path.{_≡_, refl, ap, sym, _∙_}
+use mathlib.Core.Path.{_≡_, refl, ap, _∙_}
 use mathlib.Core.List.{List, [], _∷_}
 use native.Mathlib.Omega.{arith}
 use lib.Dec.{eqb}
@@ -108,7 +108,7 @@ after-step-size edition state size =
     let w : World = world memory clear clear in
     let whole : length memory ≡ 65536 = length-drop 7 state ∙ omega (arith, size) in
     let run : stepped edition cpu memory ≡ accepted (runOf edition 1 cpu w) =
-        step-is-run-of-one (numberOf edition) cpu w ∙ accepted-sized edition 1 cpu memory whole in
+    step-is-run-of-one (numberOf edition) cpu w ∙ accepted-sized edition 1 cpu memory whole in
     let kept = run-keeps edition 1 cpu w (fresh memory 8192 whole refl .sized) .sized .memory in
     let left : length (stepped edition cpu memory .left .memory) ≡ 65536 = ap (λ (o : Outcome World Ran). length (o .left .memory)) run ∙ kept in
     length-append (bytesOf (stepped edition cpu memory .result .cpu)) (stepped edition cpu memory .left .memory) ∙ omega (arith, left)

@@ -6,7 +6,8 @@ ghost use lib.ListN.{length, getD};
 ghost use Rattle.text.specs.Line.{blank, adds};
 ghost use Rattle.editions.specs.Editions.{isEdition, editionOf};
 ghost use Rattle.stepper.specs.Alike.{alike};
-ghost use Rattle.stepper.specs.Session.{Tells, Steps, stepped, afterStep, comparisonText, firstOf, secondOf, compared, sessionOf};
+ghost use Rattle.stepper.specs.Session.{stepped, afterStep, comparisonText, firstOf, secondOf, compared, sessionOf};
+ghost use Rattle.stepper.specs.Told.{Tells, Takes};
 use engine::Ran;
 use processor::Processor;
 use text::Line;
@@ -14,7 +15,7 @@ use text::Line;
 // A step from clear maps, of which nothing is kept.
 fn step_on(cpu: Processor, edition: u8, memory: &mut [u8]) -> Ran
     requires { ⌜ isEdition edition ≡ true ⌝ }
-    ensures { λ r. ⌜ Steps (stepped (editionOf edition) cpu) memory r ⌝ }
+    ensures { λ r. ⌜ Takes (stepped (editionOf edition) cpu) memory r ⌝ }
 {
     let mut reads = [0u8; 8192];
     let mut writes = [0u8; 8192];

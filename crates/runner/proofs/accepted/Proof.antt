@@ -1,5 +1,5 @@
--- The parts of the input are the edition, the budget, the registers and the memory; the memory that the run leaves goes back to its place, with
--- nothing behind it.
+-- The parts of the input are the edition, the budget, the registers and the memory; the memory that the run leaves goes back to its place,
+-- with nothing behind it.
 -- Assumes nothing.
 use Prim.Native.Nat.{ℕ, _-_, _≤_}
 use mathlib.Core.Path.{_≡_}

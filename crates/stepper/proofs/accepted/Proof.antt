@@ -12,7 +12,8 @@ use Rattle.text.specs.Line.{blank, adds}
 use Rattle.text.specs.declared.Line.{Line}
 use Rattle.editions.specs.Editions.{editionOf}
 use Rattle.stepper.specs.Alike.{alike}
-use Rattle.stepper.specs.Session.{Told, afterStep, comparisonText, editionByte, firstOf, secondOf, outcomeOf, compared}
+use Rattle.stepper.specs.Session.{comparisonText, editionByte, firstOf, secondOf, outcomeOf, compared}
+use Rattle.stepper.specs.Told.{Told}
 use Rattle.stepper.specs.Theorems.{after-step-size}
 use Rattle.stepper.proofs.accepted.Statement.{statement}
 use Rattle.stepper.proofs.accepted.Tie as tie

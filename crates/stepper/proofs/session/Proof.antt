@@ -11,7 +11,8 @@ use Rattle.text.specs.Line.{blank, adds}
 use Rattle.text.specs.Quoted.{text}
 use Rattle.text.specs.declared.Line.{Line}
 use Rattle.editions.specs.Editions.{isEdition}
-use Rattle.stepper.specs.Session.{Told, editionByte, compared, refused, sessionOf}
+use Rattle.stepper.specs.Session.{editionByte, compared, refused, sessionOf}
+use Rattle.stepper.specs.Told.{Told}
 use Rattle.stepper.proofs.session.Statement.{statement}
 use Rattle.stepper.proofs.session.Tie as tie
 

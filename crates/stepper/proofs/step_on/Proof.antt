@@ -13,13 +13,14 @@ use Rattle.processor.specs.declared.Processor.{Processor}
 use Rattle.engine.specs.Entry.{stepAnswer}
 use Rattle.engine.specs.Provenance.{clear}
 use Rattle.engine.specs.declared.Ran.{Ran}
-use Rattle.stepper.specs.Session.{Stepped, stepped}
+use Rattle.stepper.specs.Session.{stepped}
+use Rattle.stepper.specs.Told.{Taken}
 use Rattle.stepper.proofs.step_on.Statement.{statement}
 use Rattle.stepper.proofs.step_on.Tie as tie
 
 by-number : (number : ℕ) (cpu : Processor) (image : List ℕ) {ran : Ran} {memory reads writes : List ℕ} → isEdition number ≡ true
     → outcome ran (world memory reads writes) ≡ stepAnswer number cpu (world image clear clear)
-    → Stepped (stepped (editionOf number) cpu image) ran memory
+    → Taken (stepped (editionOf number) cpu image) ran memory
 by-number number cpu image known e =
     rw (edition-and-back number known) (record {
       answer = ap (λ (o : Outcome World Ran). o .result) e;

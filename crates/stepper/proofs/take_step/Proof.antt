@@ -14,7 +14,8 @@ use Rattle.editions.specs.declared.Edition.{Edition}
 use Rattle.processor.specs.declared.Processor.{Processor}
 use Rattle.state.specs.Registers.{registersOf, bytesOf}
 use Rattle.engine.specs.declared.Ran.{Ran}
-use Rattle.stepper.specs.Session.{Stepped, stepped, afterStep}
+use Rattle.stepper.specs.Session.{stepped, afterStep}
+use Rattle.stepper.specs.Told.{Taken}
 use Rattle.stepper.proofs.take_step.Statement.{statement}
 use Rattle.stepper.proofs.take_step.Tie as tie
 
@@ -26,7 +27,7 @@ module _ (state : List ℕ) (size : length state ≡ 65543) where
       rw (post-is 7 (length state) state (omega (arith, size)), drop-length state, append-nil memory) (drop-at (take 7 state) memory 7 seven)
 
   put-together : (edition : Edition) {cpu : Processor} {ran : Ran} {part memory registers : List ℕ}
-      → cpu ≡ registersOf (take 7 state) → part ≡ drop 7 state → Stepped (stepped edition cpu part) ran memory → registers ≡ bytesOf (ran .cpu)
+      → cpu ≡ registersOf (take 7 state) → part ≡ drop 7 state → Taken (stepped edition cpu part) ran memory → registers ≡ bytesOf (ran .cpu)
       → registers ++ postOf 0 7 (putMid 7 (length state - 7) state memory) ≡ afterStep edition state
   unfolding afterStep
   put-together edition {memory = memory} c p s g = let t = rw (c, p) at s in rw (memory-back memory, g, t .answer, t .left)
