@@ -1,5 +1,5 @@
-/* The SPC700 for C and C++: one step, a run, a count of marks, what differs between two memories, one instruction's text, SPC files and
- * state records.
+/* The SPC700 for C and C++: one step, a run, a count of marks, what differs between two memories, blanked images, one instruction's text,
+ * SPC files and state records.
  *
  * The functions are those of the proved crate `exports`. `rt staticlib exports` writes them to target/staticlib/libexports.a, for
  * programs on x86-64 Linux:
@@ -18,7 +18,7 @@
  * and the text of spc700_text and the row of spc700_differences may have any length, so what is told there is taken.
  *
  * What a call answers: one number, which spc700_refusal, spc700_stop and spc700_number below take apart.
- *   bits 0 to 31    the number: steps, bytes of text, or stretches; else 0
+ *   bits 0 to 31    the number: steps, bytes of text, stretches, or addresses; else 0
  *   bits 32 to 39   the stop of a step or a run, or whether a mark is touched; else 0
  *   bits 40 to 47   the refusal: 0, or why the call was refused
  *   bits 48 to 63   0
@@ -149,6 +149,31 @@ uint64_t spc700_differences(
     uint8_t has_map,
     const uint8_t *map, size_t map_length,
     uint16_t *row, size_t row_length);
+
+/* Blanks a memory: puts one byte at every address that a map does not mark.
+ *
+ * memory   65,536 bytes, which the call changes in place: only at unmarked addresses. Of an SPC file it is file + 256
+ *          (SPC700_FILE_MEMORY).
+ * map      a map, as spc700_step keeps them. It stays as it is.
+ * byte     0 to 255.
+ *
+ * Answers how many addresses are not marked as the number: each of them was given the byte, also where it had it before.
+ *
+ * What it is for. Keep a copy of an image, since a run stores in its memory; run the one from maps of zeros, and blank the other by the
+ * `reads` that the run left. Then a run on the blanked copy from maps of zeros, with the same registers, edition and budget, gives the
+ * same registers, steps, stop and maps, and equal bytes at every address that is marked in `writes`; every other address keeps its own
+ * memory's byte. So it is with every map that has at least these marks: mark what else is to stay, and for an image that serves several
+ * runs put their maps together, each byte of the one | that of the other. Nothing is left of what stood at unmarked addresses: any two
+ * images that are equal at the marked ones become the same.
+ *
+ * What it does not cover. Samples that the sound chip fetches by itself leave no mark. A run with a larger budget, with other registers
+ * (another tune) or in the other edition may read more than the map marks. Timers, ports and sound chip at 00F0 to 00FF are plain memory
+ * here, so a player that answers them may go another way, and read more.
+ * Refusals: 1, 2. */
+uint64_t spc700_blank(
+    uint8_t *memory, size_t memory_length,
+    const uint8_t *map, size_t map_length,
+    uint8_t byte);
 
 /* Writes the text of one instruction, as `MOV A, #$7F`, into a buffer; no newline and no zero byte follow it.
  *

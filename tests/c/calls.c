@@ -67,6 +67,7 @@ static int regions(char kind)
     case 's':
         return 2;
     case 'w':
+    case 'b':
         return 3;
     case 'd':
         return 5;
@@ -90,6 +91,8 @@ static uint64_t call(char kind)
         return spc700_record_from_file(LENT(0), LENT(1));
     case 'd':
         return spc700_differences(LENT(0), LENT(1), (uint8_t)NUMBER(2), LENT(3), ROW(4));
+    case 'b':
+        return spc700_blank(LENT(0), LENT(1), (uint8_t)NUMBER(2));
     default:
         return spc700_run(LENT(0), (uint8_t)NUMBER(1), NUMBER(2), LENT(3), LENT(4), LENT(5));
     }

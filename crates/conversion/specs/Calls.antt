@@ -25,7 +25,7 @@ abbrev pub fileOf : List ℕ → List ℕ
 fileOf state = laid (registersOf (take 7 state)) (drop 7 state) newFile
 
 -- It answers the refusal and leaves the record's file, whatever the lent file held; refused, the lent file as it was.
-abbrev pub fileFromRecord : List ℕ → List ℕ → Filled
+abbrev pub fileFromRecord : List ℕ → List ℕ → Filled ℕ
 fileFromRecord state file = unlessRefused (toFileRefusal state file) (fileOf state) file
 
 -- ---- from a file to a record
@@ -43,5 +43,5 @@ abbrev pub recordOf : List ℕ → List ℕ
 recordOf file = bytesOf (recordIn file) ++ memoryIn file
 
 -- It answers the refusal and leaves the file's record, all of it; refused, the lent record as it was.
-abbrev pub recordFromFile : List ℕ → List ℕ → Filled
+abbrev pub recordFromFile : List ℕ → List ℕ → Filled ℕ
 recordFromFile file state = unlessRefused (toRecordRefusal file state) (recordOf file) state

@@ -213,7 +213,7 @@ record-to-file-and-back state file into bytes e size =
     let z = sym (answers (toFileRefusal state file) (fileOf state) file) ∙ e in
     let whole = took-record state file z .0 in
     let accepted = takes-file (fileOf state) into size (file-plain state whole) in
-    ap (λ (f : Filled). recordFromFile (f .left) into) (not-refused (toFileRefusal state file) (fileOf state) file z)
+    ap (λ (f : Filled ℕ). recordFromFile (f .left) into) (not-refused (toFileRefusal state file) (fileOf state) file z)
     ∙ not-refused (toRecordRefusal (fileOf state) into) (recordOf (fileOf state)) into accepted
     ∙ ap (λ (l : List ℕ). filled 0 l) (record-again state whole bytes)
 
@@ -224,6 +224,6 @@ file-to-record-and-back file state into bytes e size =
     let z = sym (answers (toRecordRefusal file state) (recordOf file) state) ∙ e in
     let plain = took-file file state z .1 in
     let accepted = takes-record (recordOf file) into (record-size file (plain .accepted)) size in
-    ap (λ (f : Filled). fileFromRecord (f .left) into) (not-refused (toRecordRefusal file state) (recordOf file) state z)
+    ap (λ (f : Filled ℕ). fileFromRecord (f .left) into) (not-refused (toRecordRefusal file state) (recordOf file) state z)
     ∙ not-refused (toFileRefusal (recordOf file) into) (fileOf (recordOf file)) into accepted
     ∙ ap (λ (l : List ℕ). filled 0 l) (file-again file bytes plain)

@@ -1,14 +1,11 @@
 -- What differs between two memories: what a comparison answers, and what it leaves in the lent row.
 use Prim.Native.Nat.{ℕ, _*_}
 use mathlib.Core.Bool.{Bool, false, cond, not, _&&_}
-use mathlib.Core.Path.{_≡_}
 use mathlib.Core.List.{List, [], _∷_, _++_}
-use denote.Ref.{now}
 use lib.Dec.{eqb, leb}
 use lib.ListN.{length, getD, drop}
-use Rattle.laws.specs.Lent.{Lent}
+use Rattle.laws.specs.Filled.{Filled, filled}
 use Rattle.marks.specs.Maps.{isMarked}
-use Rattle.memory.specs.Access.{Outcome}
 use Rattle.differences.specs.Stretches.{Stretch, stretchesFrom, touched}
 use Rattle.differences.specs.declared.Differences.{Differences}
 
@@ -55,17 +52,9 @@ refused refusal = record { refusal = refusal; stretches = 0; touched = false }
 abbrev pub accepted : List Stretch → (ℕ → Bool) → Differences
 accepted stretches mark = record { refusal = 0; stretches = length stretches; touched = touched mark stretches }
 
--- an answer, and what the row then has
-abbrev pub withRow : Differences → List ℕ → Outcome (List ℕ) Differences
-withRow differences row = record { result = differences; left = row }
-
 -- What a comparison answers, and what it leaves in the row: refused, the row as it was.
-abbrev pub differencesOf : List ℕ → List ℕ → Bool → List ℕ → List ℕ → Outcome (List ℕ) Differences
+abbrev pub differencesOf : List ℕ → List ℕ → Bool → List ℕ → List ℕ → Filled Differences
 differencesOf first second has-map map row =
     let stretches = stretchesOf first second in
     let refusal = refusalOf first second has-map map row in
-    cond (eqb refusal 0) (withRow (accepted stretches (marksOf has-map map)) (written stretches row)) (withRow (refused refusal) row)
-
--- What it promises: it answers and leaves what `call` makes of what the row held before.
-abbrev pub Finds : (List ℕ → Outcome (List ℕ) Differences) → Lent → Differences → Type 0
-Finds call row r = withRow r (now (row .exit)) ≡ call (now (row .entry))
+    cond (eqb refusal 0) (filled (accepted stretches (marksOf has-map map)) (written stretches row)) (filled (refused refusal) row)

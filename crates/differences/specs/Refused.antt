@@ -36,7 +36,7 @@ module _ (first second : List ℕ) (has-map : Bool) (map : List ℕ) where
 
   module _ (row : List ℕ) where
     -- Where an answer's refusal is 0, no test failed, and so no length is refused.
-    pub nothing-refused : differencesOf first second has-map map row .result .refusal ≡ 0 → refusalOf first second has-map map row ≡ 0
+    pub nothing-refused : differencesOf first second has-map map row .answer .refusal ≡ 0 → refusalOf first second has-map map row ≡ 0
     nothing-refused e = settled (ℕ-discrete (refusalOf first second has-map map row) 0) (λ n. rw (ne-eqb _ _ n) at e)
 
     pub lengths-right : refusalOf first second has-map map row ≡ 0 → lengthsRefusal first second has-map map ≡ 0

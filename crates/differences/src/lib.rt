@@ -1,7 +1,8 @@
 // What differs between two images of memory, and whether it touches what a read map marks.
 ghost use mathlib.Core.Path.{_≡_};
 ghost use Prim.Native.Nat.{_≤_};
-ghost use Rattle.differences.specs.Calls.{stretchesOf, marksOf, refused, accepted, lengthsRefusal, written, Finds, differencesOf};
+ghost use Rattle.laws.specs.Filled.{Fills};
+ghost use Rattle.differences.specs.Calls.{stretchesOf, marksOf, refused, accepted, lengthsRefusal, written, differencesOf};
 ghost use Rattle.differences.specs.Walk.{Pair, Usable, Room, Found, touchesUpTo};
 
 // What a comparison answers: refusal 0, how many stretches there are, and whether one of them touches a mark; or the refusal, 0 and no.
@@ -129,7 +130,7 @@ pub fn between(
     map: &[u8],
     row: &mut [u16],
 ) -> Differences
-    ensures { λ r. ⌜ Finds (differencesOf (now (first .entry)) (now (second .entry)) «has_map» (now (map .entry))) row r ⌝ }
+    ensures { λ r. ⌜ Fills (differencesOf (now (first .entry)) (now (second .entry)) «has_map» (now (map .entry))) row r ⌝ }
 {
     let refusal = refusal_of(first, second, has_map, map);
     if refusal != 0 {

@@ -33,6 +33,10 @@ clear = replicate 8192 0
 abbrev pub played : Edition → ℕ → Processor → List ℕ → Outcome World Ran
 played edition budget cpu image = runAnswer (numberOf edition) budget cpu (world image clear clear)
 
+-- The read map that it leaves.
+abbrev pub readMap : Edition → ℕ → Processor → List ℕ → List ℕ
+readMap edition budget cpu image = played edition budget cpu image .left .reads
+
 -- The accesses of all its steps, in order, as the definition of the instructions says them.
 abbrev pub accesses : Edition → ℕ → Processor → List ℕ → List Event
 accesses edition budget cpu image = trace (countedStep edition) budget cpu (world image clear clear)
@@ -66,9 +70,9 @@ module _ (edition : Edition) (budget : ℕ) (cpu : Processor) where
 
     -- The read map marks an address exactly when some step reads it before any step has stored there.
     pub read-map-exact : (k : ℕ) → k < 65536
-        → (isMarked (played edition budget cpu image .left .reads) k ≡ true) ↔ ReadFirst k (accesses edition budget cpu image)
+        → (isMarked (readMap edition budget cpu image) k ≡ true) ↔ ReadFirst k (accesses edition budget cpu image)
     read-map-exact k h =
-        rw (accepted-sized image size) (reads-exact (countedStep edition) budget cpu (world image clear clear) start k h)
+        rw (readMap, accepted-sized image size) (reads-exact (countedStep edition) budget cpu (world image clear clear) start k h)
 
     -- The written map marks an address exactly when some step stores there.
     pub written-map-exact : (k : ℕ) → k < 65536
@@ -80,9 +84,9 @@ module _ (edition : Edition) (budget : ℕ) (cpu : Processor) where
     -- registers, step count, stop and maps, and equal bytes wherever a step stored; at every other address each run leaves its own image's
     -- byte.
     pub provenance : (second : List ℕ) → length second ≡ 65536
-        → ((k : ℕ) → k < 65536 → isMarked (played edition budget cpu image .left .reads) k ≡ true → getD image k 0 ≡ getD second k 0)
+        → ((k : ℕ) → k < 65536 → isMarked (readMap edition budget cpu image) k ≡ true → getD image k 0 ≡ getD second k 0)
         → Same image second (played edition budget cpu image) (played edition budget cpu second)
     provenance second other equal =
         let one = accepted-sized image size in
         rw (one, accepted-sized second other)
-        (same-accepted (same-run (countedStep edition) budget cpu (world image clear clear) start second other (λ k h e. equal k h (rw one e))))
+        (same-accepted (same-run (countedStep edition) budget cpu (world image clear clear) start second other (λ k h e. equal k h (rw (readMap, one) e))))

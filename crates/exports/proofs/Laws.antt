@@ -1,5 +1,5 @@
 -- What a call answers at the bytes: refusal 6 where the registers are not seven, and else what the engine's answer, handed back, says; and
--- the one number of a call that answers its refusal alone.
+-- the one number of a call that fills what it is lent.
 -- Assumes nothing.
 use Prim.Native.Nat.{ℕ}
 use mathlib.Core.Path.{_≡_, refl}
@@ -18,7 +18,7 @@ use Rattle.runs.specs.Run.{Progress}
 use Rattle.engine.specs.Entry.{refusalOf, accepted, refused, answered, runOf, runAnswer}
 use Rattle.engine.specs.declared.Ran.{Ran}
 use Rattle.laws.specs.Filled.{Filled, filled}
-use Rattle.exports.specs.Calls.{packed, numbered, called, handedBack, Handed, runCall}
+use Rattle.exports.specs.Calls.{packed, numberedBy, called, handedBack, Handed, runCall}
 
 -- The engine leaves memory and maps as they were wherever it refuses.
 left-alone : (number : ℕ) (cpu : Processor) (w : World) (o : Outcome World (Progress Processor)) {q : Outcome World Ran}
@@ -47,5 +47,6 @@ module _ (number budget : ℕ) (registers : List ℕ) (w : World) where
       go same (yes z) = rw (eq-eqb _ _ z) (rw (eq-eqb _ _ z) at (back .whatever left))
       go same (no n) = rw (ne-eqb _ _ n, same n) (rw (ne-eqb _ _ n) at (back .whatever w))
 
-pub in-number : {o : Filled} {refusal r : ℕ} {after : List ℕ} → filled refusal after ≡ o → r ≡ packed refusal 0 0 → filled r after ≡ numbered o
-in-number e p = rw (p, ← e)
+module _ {R : Type 0} (number : R → ℕ) where
+  pub in-number : {o : Filled R} {x : R} {r : ℕ} {after : List ℕ} → filled x after ≡ o → r ≡ number x → filled r after ≡ numberedBy number o
+  in-number e p = rw (p, ← e)

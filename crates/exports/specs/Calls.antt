@@ -22,10 +22,12 @@ use Rattle.spc_file.specs.declared.FileRead.{FileRead}
 use Rattle.conversion.specs.Calls.{fileFromRecord, recordFromFile}
 use Rattle.differences.specs.Calls.{differencesOf}
 use Rattle.differences.specs.declared.Differences.{Differences}
+use Rattle.blanking.specs.Calls.{blankOf}
+use Rattle.blanking.specs.declared.Blanked.{Blanked}
 use Rattle.engine.specs.Entry.{stepAnswer, runAnswer}
 use Rattle.engine.specs.declared.Ran.{Ran}
 
--- The refusal in bits 40 and up, the stop in bits 32 to 39, the number (steps, length, stretches) in the low 32.
+-- The refusal in bits 40 and up, the stop in bits 32 to 39, the number (steps, length, stretches, addresses) in the low 32.
 abbrev pub packed : ℕ → ℕ → ℕ → ℕ
 packed refusal stop number = refusal * 2 ^ 40 + stop * 2 ^ 32 + number
 
@@ -73,21 +75,24 @@ abbrev pub CallYields : (List ℕ → World → Called) → Lent → Lent → Le
 CallYields call registers memory reads writes r =
     called r (now (registers .exit)) (after memory reads writes) ≡ call (now (registers .entry)) (before memory reads writes)
 
--- A call whose one number says the refusal alone.
-abbrev pub numbered : Filled → Filled
-numbered o = filled (packed (o .answer) 0 0) (o .left)
+-- A call that answers by one number; and one whose number says the refusal alone.
+abbrev pub numberedBy : {R : Type 0} → (R → ℕ) → Filled R → Filled ℕ
+numberedBy number o = filled (number (o .answer)) (o .left)
+
+abbrev pub numbered : Filled ℕ → Filled ℕ
+numbered = numberedBy (λ refusal. packed refusal 0 0)
 
 -- A call that fills a lent row of n numbers: 6 exactly if the row has another length, before all others; then the refusal of its work, if
 -- there is one; else `new` in the row. Refused, the row stays as it was.
-abbrev pub intoRow : ℕ → ℕ → List ℕ → List ℕ → Filled
+abbrev pub intoRow : ℕ → ℕ → List ℕ → List ℕ → Filled ℕ
 intoRow n refusal new row =
     cond (eqb (length row) n) (numbered (unlessRefused refusal new row)) (filled (packed 6 0 0) row)
 
 -- A count over both maps, into three numbers: read only, stored only, both.
-abbrev pub countsInto : Counted → List ℕ → Filled
+abbrev pub countsInto : Counted → List ℕ → Filled ℕ
 countsInto c = intoRow 3 (c .refusal) (c .«read_only» ∷ c .«stored_only» ∷ c .both ∷ [])
 
-abbrev pub countsCall : List ℕ → List ℕ → List ℕ → Filled
+abbrev pub countsCall : List ℕ → List ℕ → List ℕ → Filled ℕ
 countsCall reads writes = countsInto (countsOf reads writes)
 
 -- A comparison of two memories, with a map where the sign is not 0: the stop is 1 exactly if a stretch touches a mark, the number is how
@@ -95,28 +100,34 @@ countsCall reads writes = countsInto (countsOf reads writes)
 abbrev pub differencesNumber : Differences → ℕ
 differencesNumber d = packed (d .refusal) (cond (d .touched) 1 0) (d .stretches)
 
-abbrev pub differencesCall : List ℕ → List ℕ → ℕ → List ℕ → List ℕ → Filled
-differencesCall first second has-map map row =
-    let o = differencesOf first second (not (eqb has-map 0)) map row in filled (differencesNumber (o .result)) (o .left)
+abbrev pub differencesCall : List ℕ → List ℕ → ℕ → List ℕ → List ℕ → Filled ℕ
+differencesCall first second has-map map row = numberedBy differencesNumber (differencesOf first second (not (eqb has-map 0)) map row)
+
+-- A memory blanked by a map: the number is how many addresses were given the byte.
+abbrev pub blankedNumber : Blanked → ℕ
+blankedNumber b = packed (b .refusal) 0 (b .blanked)
+
+abbrev pub blankCall : List ℕ → ℕ → List ℕ → Filled ℕ
+blankCall map byte memory = numberedBy blankedNumber (blankOf map byte memory)
 
 -- The record of an SPC file, into seven bytes, in the order that all calls have.
-abbrev pub recordInto : FileRead → List ℕ → Filled
+abbrev pub recordInto : FileRead → List ℕ → Filled ℕ
 recordInto f = intoRow 7 (f .refusal) (bytesOf (f .cpu))
 
-abbrev pub fileReadCall : List ℕ → List ℕ → Filled
+abbrev pub fileReadCall : List ℕ → List ℕ → Filled ℕ
 fileReadCall file = recordInto (readOf file)
 
 -- Record and memory into an SPC file: 6 exactly if the registers are not seven bytes, before all others; else what the write answers and
 -- leaves.
-abbrev pub fileWriteCall : List ℕ → List ℕ → List ℕ → Filled
+abbrev pub fileWriteCall : List ℕ → List ℕ → List ℕ → Filled ℕ
 fileWriteCall registers memory file =
     cond (eqb (length registers) 7) (numbered (writeOf (registersOf registers) memory file)) (filled (packed 6 0 0) file)
 
 -- A state record into an SPC file, and back: the refusal of each way is its number.
-abbrev pub fileFromRecordCall : List ℕ → List ℕ → Filled
+abbrev pub fileFromRecordCall : List ℕ → List ℕ → Filled ℕ
 fileFromRecordCall state file = numbered (fileFromRecord state file)
 
-abbrev pub recordFromFileCall : List ℕ → List ℕ → Filled
+abbrev pub recordFromFileCall : List ℕ → List ℕ → Filled ℕ
 recordFromFileCall file state = numbered (recordFromFile file state)
 
 -- a text

@@ -32,7 +32,7 @@ module _ (file registers : List ℕ) (seven : length registers ≡ 7) where
   read-accepted : {cpu : Processor} → readOf file ≡ fileRead 0 cpu → fileReadCall file registers ≡ filled 0 (bytesOf cpu)
   read-accepted e = rw (eq-eqb _ _ seven, e)
 
-  wrote : (memory : List ℕ) {o : Filled} → writeOf (registersOf registers) memory file ≡ o
+  wrote : (memory : List ℕ) {o : Filled ℕ} → writeOf (registersOf registers) memory file ≡ o
       → fileWriteCall registers memory file ≡ filled (packed (o .answer) 0 0) (o .left)
   wrote memory e = rw (eq-eqb _ _ seven, e)
 

@@ -2,3 +2,4 @@ pub mod Calls
 pub mod Parts
 pub mod Files
 pub mod Compared
+pub mod Blanked

@@ -1,12 +1,12 @@
-// The library that other programs link: C's view of the engine, the count of marks, the differences between two memories, the listing,
-// SPC files and state records, which include/spc700.h documents. Every call takes its slices as pointer and length, has no condition, and
-// answers one number.
+// The library that other programs link: C's view of the engine, the count of marks, the differences between two memories, blanked images,
+// the listing, SPC files and state records, which include/spc700.h documents. Every call takes its slices as pointer and length, has no
+// condition, and answers one number.
 ghost use mathlib.Core.Path.{_≡_};
 ghost use lib.ListN.{length};
 ghost use Rattle.listing.specs.Instruction.{listedOf};
 ghost use Rattle.laws.specs.Filled.{Fills};
 ghost use Rattle.exports.specs.Calls.{packed, HandsBack, stepCall, runCall, CallYields, TextYields};
-ghost use Rattle.exports.specs.Calls.{countsCall, differencesCall};
+ghost use Rattle.exports.specs.Calls.{countsCall, differencesCall, blankCall};
 ghost use Rattle.exports.specs.Calls.{fileReadCall, fileWriteCall, fileFromRecordCall, recordFromFileCall};
 use engine::Ran;
 
@@ -106,6 +106,16 @@ pub extern "C" fn spc700_differences(
 {
     let found = differences::between(first, second, has_map != 0, map, row);
     packed(found.refusal, found.touched as u8, found.stretches)
+}
+
+// The byte at every address that the map does not mark, in place; the number is how many addresses these are. Refusals: 1 memory that is
+// not 65,536 bytes, 2 a map that is not 8,192 bytes.
+#[no_mangle]
+pub extern "C" fn spc700_blank(memory: &mut [u8], map: &[u8], byte: u8) -> u64
+    ensures { λ r. ⌜ Fills (blankCall (now (map .entry)) byte) memory r ⌝ }
+{
+    let blanked = blanking::blank(memory, map, byte);
+    packed(blanked.refusal, 0, blanked.blanked)
 }
 
 // One instruction's text from its bytes. Refusals: 4 fewer bytes than the instruction has, 3 a buffer that is too short.

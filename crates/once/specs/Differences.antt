@@ -2,7 +2,7 @@
 -- Assumes nothing.
 use Rattle.differences.proofs as differences
 use Rattle.once.specs.Law.{One, fifth}
-use Rattle.once.specs.Forms.{finds}
+use Rattle.once.specs.Forms.{fills}
 
 pub between-once : One differences.between.Reads.Post (λ κ. fifth)
-between-once = record { same = finds }
+between-once = record { same = fills }

@@ -18,6 +18,9 @@ spc700-counts-once = record { same = fills }
 pub spc700-differences-once : One exports.spc700_differences.Reads.Post (λ κ. fifth)
 spc700-differences-once = record { same = fills }
 
+pub spc700-blank-once : One exports.spc700_blank.Reads.Post (λ κ. first)
+spc700-blank-once = record { same = fills }
+
 pub spc700-text-once : One exports.spc700_text.Reads.Post (λ κ. second)
 spc700-text-once = record { same = λ p q. (p .0 ∙ sym (q .0), p .1 ∙ sym (q .1)) }
 

@@ -10,8 +10,6 @@ use Rattle.text.specs.declared.Written.{Written}
 use Rattle.text.specs.Given.{Wanted, Given}
 use Rattle.text.proofs.Laws.{given-once}
 use Rattle.laws.specs.Filled.{Filled, filled}
-use Rattle.differences.specs.Calls.{withRow}
-use Rattle.differences.specs.declared.Differences.{Differences}
 use Rattle.exports.specs.Calls.{Called, called}
 use Rattle.once.specs.Law.{nothing}
 
@@ -59,10 +57,6 @@ calls p q =
     let same = p ∙ sym q in
     (ap (λ c. c .answer) same, ap (λ c. c .registers ∷ c .left .memory ∷ c .left .reads ∷ c .left .writes ∷ []) same)
 
--- a call that answers a number and writes to one slice
-pub fills : {x y : ℕ} {a b : List ℕ} {c : Filled} → filled x a ≡ c → filled y b ≡ c → (x ≡ y) × (a ≡ b)
+-- a call that gives an answer and writes to one slice
+pub fills : {R : Type 0} {x y : R} {a b : List ℕ} {c : Filled R} → filled x a ≡ c → filled y b ≡ c → (x ≡ y) × (a ≡ b)
 fills p q = let same = p ∙ sym q in (ap (λ c. c .answer) same, ap (λ c. c .left) same)
-
--- a comparison: what it answers, and the row
-pub finds : {x y : Differences} {a b : List ℕ} {o : Outcome (List ℕ) Differences} → withRow x a ≡ o → withRow y b ≡ o → (x ≡ y) × (a ≡ b)
-finds p q = let same = p ∙ sym q in (ap (λ o. o .result) same, ap (λ o. o .left) same)

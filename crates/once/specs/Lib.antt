@@ -17,6 +17,7 @@ pub mod Gather
 pub mod Effects
 pub mod Engine
 pub mod Differences
+pub mod Blanking
 pub mod OpcodeData
 pub mod Listing
 pub mod Exports

@@ -36,9 +36,9 @@ unfoldable pub writeRefusal : List ℕ → List ℕ → ℕ
 writeRefusal memory file = cond (eqb (refusalOf file) 0) (cond (eqb (length memory) 65536) 0 1) (refusalOf file)
 
 -- A call that may be refused: it answers the refusal, and leaves something new in the lent slice where that is 0, else what the slice held.
-abbrev pub unlessRefused : ℕ → List ℕ → List ℕ → Filled
+abbrev pub unlessRefused : ℕ → List ℕ → List ℕ → Filled ℕ
 unlessRefused refusal new old = cond (eqb refusal 0) (filled 0 new) (filled refusal old)
 
 -- Writing answers the refusal and leaves the file with record and memory in it; refused, the file as it was.
-abbrev pub writeOf : Processor → List ℕ → List ℕ → Filled
+abbrev pub writeOf : Processor → List ℕ → List ℕ → Filled ℕ
 writeOf cpu memory file = unlessRefused (writeRefusal memory file) (laid cpu memory file) file

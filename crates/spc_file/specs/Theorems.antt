@@ -245,4 +245,4 @@ module _ (cpu : Processor) (memory file : List ℕ) where
   write-then-read e =
       let z = sym (answers (writeRefusal memory file) (laid cpu memory file) file) ∙ e in
       let w = written memory file z in
-      subst (λ (o : Filled). GivesBack cpu memory (o .left)) (sym (lays cpu memory file z)) (laid-gives-back (w .0) (w .1))
+      subst (λ (o : Filled ℕ). GivesBack cpu memory (o .left)) (sym (lays cpu memory file z)) (laid-gives-back (w .0) (w .1))

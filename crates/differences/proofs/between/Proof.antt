@@ -6,8 +6,9 @@ use mathlib.Core.Path.{_≡_}
 use mathlib.Core.List.{List}
 use lib.ListN.{length}
 use borrow.Author.Tests.{eq-eqb, ne-eqb, le-leb, lt-leb}
+use Rattle.laws.specs.Filled.{filled}
 use Rattle.differences.specs.Calls.{stretchesOf, marksOf, written, lengthsRefusal, refusalOf}
-use Rattle.differences.specs.Calls.{refused, accepted, withRow, differencesOf}
+use Rattle.differences.specs.Calls.{refused, accepted, differencesOf}
 use Rattle.differences.specs.Walk.{Pair, Usable, Room}
 use Rattle.differences.specs.Refused.{paired, usable}
 use Rattle.differences.specs.declared.Differences.{Differences}
@@ -17,7 +18,7 @@ use Rattle.differences.proofs.between.Tie as tie
 
 module _ (first second : List ℕ) (has-map : Bool) (map row : List ℕ)
     {refusal : ℕ} (is : refusal ≡ lengthsRefusal first second has-map map) where
-  wrong-lengths : {r : Differences} → (refusal ≡ 0 → ⊥) → r ≡ refused refusal → withRow r row ≡ differencesOf first second has-map map row
+  wrong-lengths : {r : Differences} → (refusal ≡ 0 → ⊥) → r ≡ refused refusal → filled r row ≡ differencesOf first second has-map map row
   unfolding refusalOf
   wrong-lengths n e = rw (e, ← is, ne-eqb _ _ n, ne-eqb _ _ n)
 
@@ -30,7 +31,7 @@ module _ (first second : List ℕ) (has-map : Bool) (map row : List ℕ)
 
     module _ {found : Differences} (f : found ≡ accepted (stretchesOf first second) (marksOf has-map map)) where
       short-row : {r : Differences} → length row < 2 * found .stretches → r ≡ refused 3
-          → withRow r row ≡ differencesOf first second has-map map row
+          → filled r row ≡ differencesOf first second has-map map row
       unfolding refusalOf
       short-row h e =
           let short : length row < 2 * length (stretchesOf first second) = rw f at h in
@@ -40,7 +41,7 @@ module _ (first second : List ℕ) (has-map : Bool) (map row : List ℕ)
       room h = record { two-each = rw f; room = h }
 
       all-told : {left : List ℕ} → 2 * found .stretches ≤ length row → left ≡ written (stretchesOf first second) row
-          → withRow found left ≡ differencesOf first second has-map map row
+          → filled found left ≡ differencesOf first second has-map map row
       unfolding refusalOf
       all-told h e =
           let enough : 2 * length (stretchesOf first second) ≤ length row = rw f at h in

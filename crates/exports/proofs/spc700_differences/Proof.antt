@@ -8,7 +8,7 @@ use lib.Dec.{eqb}
 use mir.Val.{boolByte}
 use borrow.Author.Needs.{needs}
 use Rattle.laws.specs.Filled.{filled}
-use Rattle.differences.specs.Calls.{withRow, differencesOf}
+use Rattle.differences.specs.Calls.{differencesOf}
 use Rattle.differences.specs.declared.Differences.{Differences}
 use Rattle.exports.specs.Calls.{packed, differencesCall}
 use Rattle.exports.proofs.spc700_differences.Statement.{statement}
@@ -19,7 +19,7 @@ one-or-zero true = refl
 one-or-zero false = refl
 
 told : (first second : List ℕ) (has-map : ℕ) (map row : List ℕ) {found : Differences} {left : List ℕ} {r : ℕ}
-    → withRow found left ≡ differencesOf first second (not (eqb has-map 0)) map row
+    → filled found left ≡ differencesOf first second (not (eqb has-map 0)) map row
     → r ≡ packed (found .refusal) (boolByte (found .touched)) (found .stretches)
     → filled r left ≡ differencesCall first second has-map map row
 told first second has-map map row {found} e p = rw (p, one-or-zero (found .touched), ← e)

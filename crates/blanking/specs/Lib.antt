@@ -1,0 +1,5 @@
+pub mod Calls
+pub mod Image
+pub mod Theorems
+pub mod Answers
+pub mod Together

@@ -1,0 +1,44 @@
+-- Maps put together, for an image that is to serve several runs, or to keep more than a run reads: `Theorems.same-run-with-more` holds of
+-- each of the maps.
+-- Assumes nothing.
+use Prim.Native.Nat.{ℕ, zero, suc, _/_, _%_, _^_}
+use mathlib.Core.Path.{_≡_, refl, sym}
+use mathlib.Core.Bool.{_||_, or-true}
+use mathlib.Core.List.{List, [], _∷_}
+use native.Mathlib.Omega.{arith}
+use lib.Bits.{bitOr, or-zero-l, or-zero-r}
+use lib.Dec.{eqb}
+use lib.ListN.{getD}
+use Rattle.laws.specs.Table.{same-grid}
+use Rattle.marks.specs.Maps.{isMarked}
+use Rattle.marks.proofs.Laws.{or-bit}
+use Rattle.memory.specs.Theorems.{Keeps}
+
+-- Byte by byte, each byte with the bits of both.
+abbrev pub together : List ℕ → List ℕ → List ℕ
+together [] other = other
+together (a ∷ map) [] = a ∷ map
+together (a ∷ map) (b ∷ other) = bitOr a b ∷ together map other
+
+get-together : (map other : List ℕ) (i : ℕ) → getD (together map other) i 0 ≡ bitOr (getD map i 0) (getD other i 0)
+get-together [] other i = sym (or-zero-l (getD other i 0))
+get-together (a ∷ map) [] i = sym (or-zero-r (getD (a ∷ map) i 0))
+get-together (a ∷ map) (b ∷ other) zero = refl
+get-together (a ∷ map) (b ∷ other) (suc i) = get-together map other i
+
+either-bit : (x y j : ℕ) → eqb (bitOr x y / 2 ^ j % 2) 1 ≡ (eqb (x / 2 ^ j % 2) 1 || eqb (y / 2 ^ j % 2) 1)
+either-bit x y j =
+    rw or-bit
+    (same-grid 2 2 (λ m n. eqb (bitOr m n) 1) (λ m n. eqb m 1 || eqb n 1) refl (x / 2 ^ j % 2) (y / 2 ^ j % 2) (omega arith) (omega arith))
+
+module _ (map other : List ℕ) where
+  -- They mark what either of them marks,
+  pub marks-of-either : (k : ℕ) → isMarked (together map other) k ≡ (isMarked map k || isMarked other k)
+  marks-of-either k = rw (get-together map other (k / 8)) (either-bit (getD map (k / 8) 0) (getD other (k / 8) 0) (k % 8))
+
+  -- and so have at least the marks of each.
+  pub keeps-first : Keeps map (together map other)
+  keeps-first = record { marks = λ k h e. rw (marks-of-either k, e) }
+
+  pub keeps-second : Keeps other (together map other)
+  keeps-second = record { marks = λ k h e. rw (marks-of-either k, e) (or-true (isMarked map k)) }
