@@ -53,7 +53,7 @@ module _ (map : List ℕ) (byte : ℕ) (image : List ℕ) where
     }
 
     module _ {memory : List ℕ} {blanked at : ℕ} (so : SoFar memory blanked at) where
-      module _ (h : at < length memory) {after : List ℕ} {count : ℕ} where
+      module _ (h : at < 65536) {after : List ℕ} {count : ℕ} where
         -- One address more is done where it has what it is to have, is counted, and every other one stays.
         next : length after ≡ length memory → getD after at 0 ≡ cond (isMarked map at) (getD image at 0) byte
             → ((k : ℕ) → (k ≡ at → ⊥) → getD after k 0 ≡ getD memory k 0) → count ≡ cond (not (isMarked map at)) 1 0 + blanked
@@ -83,7 +83,7 @@ module _ (map : List ℕ) (byte : ℕ) (image : List ℕ) where
           pub one-blanked : after ≡ set memory at byte → count ≡ blanked + 1 → not told ≡ true → SoFar after count (at + 1)
           one-blanked a c n =
               let free : isMarked map at ≡ false = sym is ∙ not-true told n in
-              next (rw a (length-set memory at byte)) (rw (a, free) (getD-set-same memory at byte 0 h))
+              next (rw a (length-set memory at byte)) (rw (a, free) (getD-set-same memory at byte 0 (omega (arith, so .size))))
               (λ k other. rw a (getD-set-other memory at k byte 0 other))
               (rw (c, free) (omega arith))
 
@@ -91,7 +91,7 @@ module _ (map : List ℕ) (byte : ℕ) (image : List ℕ) where
       count-fits = omega (arith, so .within, so .counted, at-most at (λ k. not (isMarked map k)))
 
       -- After the last address all is blanked.
-      pub all-blanked : length map ≡ 8192 → length memory ≤ at
+      pub all-blanked : length map ≡ 8192 → 65536 ≤ at
           → filled (record { refusal = 0; blanked = blanked }) memory ≡ blankOf map byte image
       unfolding refusalOf
       all-blanked map-size h =
