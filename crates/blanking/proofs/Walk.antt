@@ -21,7 +21,7 @@ use Rattle.blanking.specs.Image.{only-blanked}
 use Rattle.blanking.specs.declared.Blanked.{Blanked}
 
 module _ (map : List ℕ) (byte : ℕ) (image : List ℕ) where
-  -- What a memory has at each address once those below one are done.
+  -- What a memory has at each address once those below `at` are done.
   pub record SoFar (memory : List ℕ) (blanked at : ℕ) : Type 0 where
     pub within : at ≤ 65536
     pub size : length memory ≡ 65536
@@ -60,16 +60,16 @@ module _ (map : List ℕ) (byte : ℕ) (image : List ℕ) where
             → SoFar after count (at + 1)
         unfolding howMany
         next same here others more = record {
-          within = omega (arith, so .size);
+          within = omega arith;
           size = same ∙ so .size;
           done = λ k q. go k q (decLt k at);
           ahead = λ k q. others k (omega arith) ∙ so .ahead k (omega arith);
-          counted = let next : at + 1 ≡ suc at = omega arith in more ∙ rw (so .counted, next);
+          counted = let one : at + 1 ≡ suc at = omega arith in more ∙ rw (so .counted, one);
         }
           where
             go : (k : ℕ) → k < at + 1 → Dec (k < at) → getD after k 0 ≡ cond (isMarked map k) (getD image k 0) byte
-            go k q (yes less) = others k (omega arith) ∙ so .done k less
-            go k q (no more) = let there : k ≡ at = omega arith in rw there here
+            go k q (yes before) = others k (omega arith) ∙ so .done k before
+            go k q (no behind) = let there : k ≡ at = omega arith in rw there here
 
         -- by what the test of its mark told
         module _ {told : Bool} (is : told ≡ isMarked map at) where
@@ -95,7 +95,7 @@ module _ (map : List ℕ) (byte : ℕ) (image : List ℕ) where
           → filled (record { refusal = 0; blanked = blanked }) memory ≡ blankOf map byte image
       unfolding refusalOf
       all-blanked map-size h =
-          let end : at ≡ 65536 = omega (arith, so .within, so .size) in
+          let end : at ≡ 65536 = omega (arith, so .within) in
           let is = only-blanked map byte image memory (so .size ∙ sym size) (λ k q. so .done k (omega arith)) in
           let number : blanked ≡ howMany 65536 (λ k. not (isMarked map k)) = rw (← end) (so .counted) in
           rw (eq-eqb _ _ size, eq-eqb _ _ map-size, is, number)

@@ -1,5 +1,6 @@
--- The run on a blanked image once more, now without a condition: of any number that is given for an edition, of any image and of any map.
--- Where the run on the image is refused, so is that on the blanked one.
+-- The run on a blanked image once more, now with no condition on numbers and lengths: of whatever number is given for an edition, and of an
+-- image and a map of any length. Where the run on the image is refused, so is that on the blanked one. The map has at least the marks of
+-- the run's own, as before.
 -- Assumes nothing.
 use Prim.Native.Nat.{ℕ}
 use mathlib.Core.Path.{_≡_, refl, sym, _∙_}
@@ -42,7 +43,8 @@ module _ (number budget : ℕ) (cpu : Processor) where
   right-size : (image : List ℕ) → refusalOf number (world image clear clear) ≡ 0 → length image ≡ 65536
   right-size image z = sized number (world image clear clear) z refl .memory
 
-  in-edition : (image : List ℕ) → refusalOf number (world image clear clear) ≡ 0 → answerTo image ≡ played (editionOf number) budget cpu image
+  in-edition : (image : List ℕ) → refusalOf number (world image clear clear) ≡ 0
+      → answerTo image ≡ played (editionOf number) budget cpu image
   in-edition image z = rw (eq-eqb _ _ z) (sym (accepted-sized (editionOf number) budget cpu image (right-size image z)))
 
   module _ (image map : List ℕ) (byte : ℕ) where

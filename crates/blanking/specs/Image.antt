@@ -44,7 +44,22 @@ module _ (map : List ℕ) (byte : ℕ) where
         ext-getD 0 other (blankedImage map byte image) (size ∙ sym length-blanked)
         (λ k h. each k (omega arith) ∙ sym (get-blanked k (omega arith)))
 
-    -- What holds of each outcome holds of the one that there is.
+    pub marked-kept : (k : ℕ) → k < length image → isMarked map k ≡ true → getD image k 0 ≡ getD (blankedImage map byte image) k 0
+    marked-kept k h e = sym (get-blanked k h ∙ rw e)
+
+    -- A second image that agrees at the marked addresses has the same blanked image.
+    pub same-blanked : (second : List ℕ) → length second ≡ length image
+        → ((k : ℕ) → k < length image → isMarked map k ≡ true → getD image k 0 ≡ getD second k 0)
+        → blankedImage map byte second ≡ blankedImage map byte image
+    same-blanked second size agree =
+        only-blanked (blankedImage map byte second) (length-from 0 second ∙ size)
+        (λ k h. simp zero-add at (get-from 0 second k (omega arith)) ∙ go k h (isMarked map k) refl)
+      where
+        go : (k : ℕ) → k < length image → (b : Bool) → isMarked map k ≡ b → cond b (getD second k 0) byte ≡ cond b (getD image k 0) byte
+        go k h true e = sym (agree k h e)
+        go k h false e = refl
+
+    -- What holds of each outcome holds of the one that there is; which one it is goes by the lengths.
     pub either : (P : Filled Blanked → Type 0) → (refusalOf map image ≡ 0 → P (filled (accepted map) (blankedImage map byte image)))
         → ((refusalOf map image ≡ 0 → ⊥) → P (filled (refused (refusalOf map image)) image)) → P (blankOf map byte image)
     either P taken not-taken =
@@ -52,3 +67,15 @@ module _ (map : List ℕ) (byte : ℕ) where
           | yes z ↦ rw (eq-eqb _ _ z) (taken z)
           | no n ↦ rw (ne-eqb _ _ n) (not-taken n)
         ]
+
+    -- An image that is not refused has 65,536 bytes.
+    pub right-size : refusalOf map image ≡ 0 → length image ≡ 65536
+    unfolding refusalOf
+    right-size z = elim (ℕ-discrete (length image) 65536) [ yes e ↦ e | no n ↦ absurd (wrong n) ]
+      where
+        wrong : (length image ≡ 65536 → ⊥) → ⊥
+        wrong n = let one : _≡_ {A = ℕ} 1 0 = rw (ne-eqb _ _ n) at z in omega arith
+
+    pub same-refusal : (other : List ℕ) → length other ≡ length image → refusalOf map other ≡ refusalOf map image
+    unfolding refusalOf
+    same-refusal other e = rw e

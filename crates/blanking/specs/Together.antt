@@ -1,18 +1,23 @@
--- Maps put together, for an image that is to serve several runs, or to keep more than a run reads: `Theorems.same-run-with-more` holds of
--- each of the maps.
+-- Maps put together, for an image that is to serve several runs, or to keep more than a run reads.
 -- Assumes nothing.
 use Prim.Native.Nat.{ℕ, zero, suc, _/_, _%_, _^_}
-use mathlib.Core.Path.{_≡_, refl, sym}
+use mathlib.Core.Path.{_≡_, refl, ap, sym, _∙_}
 use mathlib.Core.Bool.{_||_, or-true}
 use mathlib.Core.List.{List, [], _∷_}
 use native.Mathlib.Omega.{arith}
 use lib.Bits.{bitOr, or-zero-l, or-zero-r}
 use lib.Dec.{eqb}
-use lib.ListN.{getD}
+use lib.ListN.{length, getD}
 use Rattle.laws.specs.Table.{same-grid}
 use Rattle.marks.specs.Maps.{isMarked}
 use Rattle.marks.proofs.Laws.{or-bit}
 use Rattle.memory.specs.Theorems.{Keeps}
+use Rattle.editions.specs.declared.Edition.{Edition}
+use Rattle.processor.specs.declared.Processor.{Processor}
+use Rattle.runs.specs.Same.{Same}
+use Rattle.engine.specs.Provenance.{played, readMap}
+use Rattle.blanking.specs.Calls.{blankOf}
+use Rattle.blanking.specs.Theorems.{same-run-with-more}
 
 -- Byte by byte, each byte with the bits of both.
 abbrev pub together : List ℕ → List ℕ → List ℕ
@@ -42,3 +47,32 @@ module _ (map other : List ℕ) where
 
   pub keeps-second : Keeps other (together map other)
   keeps-second = record { marks = λ k h e. rw (marks-of-either k, e) (or-true (isMarked map k)) }
+
+  same-length : length map ≡ length other → length (together map other) ≡ length map
+  same-length = lengths map other
+    where
+      lengths : (map other : List ℕ) → length map ≡ length other → length (together map other) ≡ length map
+      lengths [] other e = sym e
+      lengths (a ∷ map) [] e = refl
+      lengths (a ∷ map) (b ∷ other) e = ap suc (lengths map other (omega arith))
+
+  -- Of two maps of 8,192 bytes it is one.
+  pub together-size : length map ≡ 8192 → length other ≡ 8192 → length (together map other) ≡ 8192
+  together-size one two = same-length (one ∙ sym two) ∙ one
+
+-- So an image that is blanked by the read maps of two runs of it, put together, gives both runs.
+module _ (image : List ℕ) (size : length image ≡ 65536) (byte : ℕ)
+    (edition edition₂ : Edition) (budget budget₂ : ℕ) (cpu cpu₂ : Processor) where
+  -- the image blanked by both
+  abbrev pub forBoth : List ℕ
+  forBoth = blankOf (together (readMap edition budget cpu image) (readMap edition₂ budget₂ cpu₂ image)) byte image .left
+
+  pub serves-first : Same image forBoth (played edition budget cpu image) (played edition budget cpu forBoth)
+  serves-first =
+      same-run-with-more edition budget cpu image size byte _
+      (keeps-first (readMap edition budget cpu image) (readMap edition₂ budget₂ cpu₂ image))
+
+  pub serves-second : Same image forBoth (played edition₂ budget₂ cpu₂ image) (played edition₂ budget₂ cpu₂ forBoth)
+  serves-second =
+      same-run-with-more edition₂ budget₂ cpu₂ image size byte _
+      (keeps-second (readMap edition budget cpu image) (readMap edition₂ budget₂ cpu₂ image))

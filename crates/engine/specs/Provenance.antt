@@ -2,7 +2,7 @@
 -- that the code answers and leaves in the lent memory and maps.
 -- Assumes nothing.
 use Prim.Native.Nat.{ℕ, _<_}
-use mathlib.Core.Path.{_≡_, refl, ap}
+use mathlib.Core.Path.{_≡_, refl}
 use mathlib.Core.Logic.{_↔_}
 use mathlib.Core.Bool.{true}
 use mathlib.Core.List.{List}
@@ -21,8 +21,9 @@ use Rattle.runs.specs.Marks.{ReadFirst, StoredAt}
 use Rattle.runs.specs.Same.{Same}
 use Rattle.runs.proofs.Trace.{run-unmapped}
 use Rattle.runs.proofs.Exact.{Fresh, fresh, reads-exact, writes-exact}
-use Rattle.runs.proofs.Agree.{same-run}
+use Rattle.runs.proofs.Agree.{same-through, same-run}
 use Rattle.engine.specs.Entry.{ran, accepted, refusalOf, countedStep, runOf, runAnswer}
+use Rattle.engine.specs.Theorems.{run-keeps}
 use Rattle.engine.specs.declared.Ran.{Ran}
 
 -- A map without marks: 8,192 bytes of zero.
@@ -43,14 +44,7 @@ accesses edition budget cpu image = trace (countedStep edition) budget cpu (worl
 
 same-accepted : {image second : List ℕ} {o q : Outcome World (Progress Processor)} → Same image second o q
     → Same image second (accepted o) (accepted q)
-same-accepted s = record {
-  result = ap (λ (p : Progress Processor). ran 0 (p .regs) (p .steps) (p .stop)) (s .result);
-  reads = s .reads;
-  writes = s .writes;
-  stored = s .stored;
-  first = s .first;
-  other = s .other;
-}
+same-accepted = same-through (λ (p : Progress Processor). ran 0 (p .regs) (p .steps) (p .stop))
 
 -- Of one edition, whichever it is; of one budget and one record.
 module _ (edition : Edition) (budget : ℕ) (cpu : Processor) where
@@ -63,6 +57,11 @@ module _ (edition : Edition) (budget : ℕ) (cpu : Processor) where
   module _ (image : List ℕ) (size : length image ≡ 65536) where
     start : Fresh (world image clear clear)
     start = fresh image 8192 size refl
+
+    -- The read map has 8,192 bytes then.
+    pub read-map-size : length (readMap edition budget cpu image) ≡ 8192
+    read-map-size =
+        rw (readMap, accepted-sized image size) (run-keeps edition budget cpu (world image clear clear) (start .sized) .sized .reads)
 
     -- The accesses depend on the image alone: whatever the maps hold, they are the same. So nothing below is said in a circle.
     pub accesses-of-image : (w : World) → w .memory ≡ image → trace (countedStep edition) budget cpu w ≡ accesses edition budget cpu image
@@ -88,5 +87,5 @@ module _ (edition : Edition) (budget : ℕ) (cpu : Processor) where
         → Same image second (played edition budget cpu image) (played edition budget cpu second)
     provenance second other equal =
         let one = accepted-sized image size in
-        rw (one, accepted-sized second other)
-        (same-accepted (same-run (countedStep edition) budget cpu (world image clear clear) start second other (λ k h e. equal k h (rw (readMap, one) e))))
+        let same = same-run (countedStep edition) budget cpu (world image clear clear) start second other in
+        rw (one, accepted-sized second other) (same-accepted (same (λ k h e. equal k h (rw (readMap, one) e))))

@@ -1,21 +1,32 @@
--- What a program knows that runs an image, blanks it and runs it again by these calls: both runs answer and leave the same.
+-- What a program knows that blanks images by these calls: the run of a blanked image answers and leaves the same, nothing is left of what
+-- stood at unmarked addresses, and the number tells how many these are.
 -- Assumes nothing.
-use Prim.Native.Nat.{ℕ}
-use mathlib.Core.Path.{_≡_, refl}
+use Prim.Native.Nat.{ℕ, _/_, _%_, _^_, _<_}
+use mathlib.Core.Bool.{not}
+use mathlib.Core.Path.{_≡_, ap, _∙_}
 use mathlib.Core.List.{List}
 use native.Mathlib.Decide.{ℕ-discrete}
+use native.Mathlib.Omega.{arith}
 use lib.ListN.{length}
 use borrow.Author.Tests.{eq-eqb, ne-eqb}
+use Rattle.marks.specs.Maps.{isMarked}
+use Rattle.marks.specs.HowMany.{at-most}
 use Rattle.memory.specs.World.{World, world}
 use Rattle.memory.specs.Access.{Outcome}
 use Rattle.memory.specs.Theorems.{Keeps}
-use Rattle.state.specs.Registers.{registersOf}
+use Rattle.state.specs.Registers.{registersOf, bytesOf}
 use Rattle.runs.specs.Same.{Same}
+use Rattle.runs.proofs.Agree.{same-through}
 use Rattle.engine.specs.Entry.{refusalOf}
 use Rattle.engine.specs.Provenance.{clear}
 use Rattle.engine.specs.declared.Ran.{Ran}
+use Rattle.blanking.specs.Calls.{unmarked}
+use Rattle.blanking.specs.Theorems.{AgreeAt, twice, not-refused, nothing-left}
 use Rattle.blanking.specs.Answers.{answerTo, both-refused, same-answer}
-use Rattle.exports.specs.Calls.{Called, handedBack, runCall, blankCall}
+use Rattle.exports.specs.Calls.{packed, numberedBy, blankedNumber, Called, handedBack, runCall, blankCall}
+use Rattle.exports.specs.Parts.{refusal-part, number-part}
+
+-- ---- the run on a blanked image
 
 -- What a call answers, in its number and in the registers' bytes.
 pub record Answer : Type 0 where
@@ -30,22 +41,28 @@ outcomeOf c = record { result = record { number = c .answer; registers = c .regi
 abbrev pub playedCall : ℕ → ℕ → List ℕ → List ℕ → Called
 playedCall edition budget registers image = runCall edition budget registers (world image clear clear)
 
+-- What is handed back of an engine's answer on an image with clear maps; of an accepted one, what it answered itself.
+abbrev handed : List ℕ → List ℕ → Outcome World Ran → Outcome World Answer
+handed registers image o = outcomeOf (handedBack registers (world image clear clear) o)
+
+abbrev accepted : Ran → Answer
+accepted r = record { number = packed 0 (r .stop) (r .steps); registers = bytesOf (r .cpu) }
+
 -- What the engine answered alike, refused or not, is handed back alike.
 handed-alike : (registers image second : List ℕ) (o q : Outcome World Ran) → Same image second o q
-    → Same image second (outcomeOf (handedBack registers (world image clear clear) o)) (outcomeOf (handedBack registers (world second clear clear) q))
+    → Same image second (handed registers image o) (handed registers second q)
 handed-alike registers image second o q s = go (ℕ-discrete (o .result .refusal) 0)
   where
-    go : Dec (o .result .refusal ≡ 0)
-        → Same image second (outcomeOf (handedBack registers (world image clear clear) o)) (outcomeOf (handedBack registers (world second clear clear) q))
+    go : Dec (o .result .refusal ≡ 0) → Same image second (handed registers image o) (handed registers second q)
     go (yes z) =
-        rw (← s .result, eq-eqb _ _ z)
-        (record { result = refl; reads = s .reads; writes = s .writes; stored = s .stored; first = s .first; other = s .other })
+        let other : q .result .refusal ≡ 0 = rw (← s .result) z in
+        rw (eq-eqb _ _ z, eq-eqb _ _ other) (same-through accepted s)
     go (no n) = rw (← s .result, ne-eqb _ _ n) (both-refused image second _)
 
 -- Whatever the numbers are, and whatever is lent.
 module _ (edition budget : ℕ) (registers image map : List ℕ) (byte : ℕ) where
-  -- A call hands back the engine's own maps, refused or not.
-  its-marks : Keeps (handedBack registers (world image clear clear) (answerTo edition budget (registersOf registers) image) .left .reads) map
+  -- the engine's own maps are handed back, refused or not
+  its-marks : Keeps (handed registers image (answerTo edition budget (registersOf registers) image) .left .reads) map
       → Keeps (answerTo edition budget (registersOf registers) image .left .reads) map
   its-marks more =
       elim (ℕ-discrete (refusalOf edition (world image clear clear)) 0) [
@@ -68,3 +85,25 @@ module _ (edition budget : ℕ) (registers image map : List ℕ) (byte : ℕ) wh
             (handed-alike registers image (blankCall map byte image .left) _ _
             (same-answer edition budget (registersOf registers) image map byte (its-marks (rw (eq-eqb _ _ seven) at more))))
       ]
+
+-- ---- what the call answers and leaves
+
+-- Called twice with one byte, it answers and leaves what it does called once.
+pub twice-called : (map : List ℕ) (byte : ℕ) (image : List ℕ) → blankCall map byte (blankCall map byte image .left) ≡ blankCall map byte image
+twice-called map byte image = ap (numberedBy blankedNumber) (twice map byte image)
+
+module _ (map : List ℕ) (byte : ℕ) (image : List ℕ) (map-size : length map ≡ 8192) (size : length image ≡ 65536) where
+  -- Two images that agree at the marked addresses are left the same, and the same number is answered.
+  pub nothing-left-called : (second : List ℕ) → length second ≡ 65536 → AgreeAt map image second
+      → blankCall map byte second ≡ blankCall map byte image
+  nothing-left-called second other agree = ap (numberedBy blankedNumber) (nothing-left image second size other byte map map-size agree)
+
+  few : unmarked map < 2 ^ 32
+  few = omega (arith, at-most 65536 (λ k. not (isMarked map k)))
+
+  -- Refusal and number as include/spc700.h takes them out of the answer: 0, and how many addresses the map does not mark.
+  pub refusal-told : blankCall map byte image .answer / 2 ^ 40 ≡ 0
+  refusal-told = rw (not-refused map byte image map-size size) (refusal-part 0 0 (unmarked map) (omega arith) few)
+
+  pub number-told : blankCall map byte image .answer % 2 ^ 32 ≡ unmarked map
+  number-told = rw (not-refused map byte image map-size size) (number-part 0 0 (unmarked map) (omega arith) few)

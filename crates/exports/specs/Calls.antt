@@ -79,8 +79,11 @@ CallYields call registers memory reads writes r =
 abbrev pub numberedBy : {R : Type 0} → (R → ℕ) → Filled R → Filled ℕ
 numberedBy number o = filled (number (o .answer)) (o .left)
 
+abbrev pub refusalNumber : ℕ → ℕ
+refusalNumber refusal = packed refusal 0 0
+
 abbrev pub numbered : Filled ℕ → Filled ℕ
-numbered = numberedBy (λ refusal. packed refusal 0 0)
+numbered = numberedBy refusalNumber
 
 -- A call that fills a lent row of n numbers: 6 exactly if the row has another length, before all others; then the refusal of its work, if
 -- there is one; else `new` in the row. Refused, the row stays as it was.

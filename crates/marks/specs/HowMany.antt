@@ -41,6 +41,12 @@ at-most (suc n) test = go (test n) (at-most n test)
     go true h = omega arith
     go false h = omega arith
 
+-- and where the test is always passed, so many do
+pub all-pass : (n : ℕ) → howMany n (λ k. true) ≡ n
+unfolding howMany
+all-pass zero = refl
+all-pass (suc n) = omega (arith, all-pass n)
+
 one-or-none : (x : ℕ) → x < 2 → x ≡ cond (eqb x 1) 1 0
 one-or-none zero h = refl
 one-or-none (suc zero) h = refl

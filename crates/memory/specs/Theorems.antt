@@ -24,8 +24,8 @@ pub record Kept (before after : World) : Type 0 where
 
 -- ---- one mark more
 
-itself : (m : List ℕ) → Keeps m m
-itself m = record { marks = λ k h t. t }
+pub keeps-itself : (m : List ℕ) → Keeps m m
+keeps-itself m = record { marks = λ k h t. t }
 
 one-more : (m : List ℕ) (a : ℕ) → length m ≡ 8192 → Keeps m (marked m a)
 one-more m a l = record { marks = λ k h t. rw (marked-is m a k l h, t) (or-true (eqb a k)) }
@@ -33,7 +33,7 @@ one-more m a l = record { marks = λ k h t. rw (marked-is m a k l h, t) (or-true
 -- by whether a read marks
 read-keeps : (b : Bool) (m : List ℕ) (a : ℕ) → length m ≡ 8192
     → (length (cond b m (marked m a)) ≡ 8192) × Keeps m (cond b m (marked m a))
-read-keeps true m a l = (l, itself m)
+read-keeps true m a l = (l, keeps-itself m)
 read-keeps false m a l = (rw length-marked l, one-more m a l)
 
 -- one access, and then more
@@ -45,7 +45,7 @@ later r s k = record {
 }
 
 pub kept-itself : (w : World) → Sized w → Kept w w
-kept-itself w s = record { sized = s; reads = itself (w .reads); writes = itself (w .writes) }
+kept-itself w s = record { sized = s; reads = keeps-itself (w .reads); writes = keeps-itself (w .writes) }
 
 pub kept-trans : {u v w : World} → Kept u v → Kept v w → Kept u w
 kept-trans f g = later (f .reads) (f .writes) g
@@ -56,8 +56,8 @@ unfolding perform
 marks-stay (done x) w s = kept-itself w s
 marks-stay (readAt a p) w s =
     let r = read-keeps (isMarked (w .writes) a) (w .reads) a (s .reads) in
-    later (r .1) (itself (w .writes))
+    later (r .1) (keeps-itself (w .writes))
     (marks-stay (p (byteAt a w)) (seen a w) (record { memory = s .memory; reads = r .0; writes = s .writes }))
 marks-stay (storeAt a byte p) w s =
-    later (itself (w .reads)) (one-more (w .writes) a (s .writes))
+    later (keeps-itself (w .reads)) (one-more (w .writes) a (s .writes))
     (marks-stay p (kept a byte w) (record { memory = rw length-set (s .memory); reads = s .reads; writes = rw length-marked (s .writes) }))

@@ -3,7 +3,7 @@
 -- is equal in both.
 -- Assumes nothing.
 use Prim.Native.Nat.{ℕ, _<_}
-use mathlib.Core.Path.{_≡_, refl, sym, subst, _∙_}
+use mathlib.Core.Path.{_≡_, refl, ap, sym, subst, _∙_}
 use mathlib.Core.Bool.{Bool, true, false, _||_, cond, or-true, true≢false}
 use mathlib.Core.List.{List, [], _∷_}
 use native.Mathlib.Omega.{arith}
@@ -15,7 +15,7 @@ use borrow.Author.Tests.{eqb-true, eqb-false, eq-eqb}
 use Rattle.marks.specs.Maps.{isMarked}
 use Rattle.marks.proofs.Laws.{marked-is}
 use Rattle.memory.specs.World.{World, Sized, world, byteAt, seen, kept}
-use Rattle.memory.specs.Access.{Access, perform}
+use Rattle.memory.specs.Access.{Access, Outcome, perform}
 use Rattle.memory.specs.Access.Access.{done, readAt, storeAt}
 use Rattle.runs.specs.Run.{Progress, run}
 use Rattle.runs.specs.Trace.{Event, events, taken, trace}
@@ -25,6 +25,12 @@ use Rattle.runs.specs.Same.{Same}
 use Rattle.runs.proofs.Run.{Agreed, run-both}
 use Rattle.runs.proofs.Trace.{effect, replay, replays, run-replays, sized-effect, sized-replay, writes-replay, reads-effect}
 use Rattle.runs.proofs.Exact.{Fresh, reads-stay}
+
+-- What is the same stays so under any function of the answer.
+pub same-through : {R S : Type 0} (f : R → S) {image second : List ℕ} {o q : Outcome World R} → Same image second o q
+    → Same image second (record { result = f (o .result); left = o .left }) (record { result = f (q .result); left = q .left })
+same-through f s =
+    record { result = ap f (s .result); reads = s .reads; writes = s .writes; stored = s .stored; first = s .first; other = s .other }
 
 get-set : (m : List ℕ) (a v k : ℕ) → k < length m → getD (set m a v) k 0 ≡ cond (eqb a k) v (getD m k 0)
 get-set m a v k h = go (eqb a k) refl

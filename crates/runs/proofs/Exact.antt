@@ -83,7 +83,8 @@ no-marks n k = rw (zeros n (k / 8), zero-div)
 -- over the map's length, so that no list of 8,192 zeros is ever written out
 pub fresh : (image : List ℕ) (n : ℕ) → length image ≡ 65536 → n ≡ 8192 → Fresh (world image (replicate n 0) (replicate n 0))
 fresh image n l e =
-    record { sized = record { memory = l; reads = length-replicate n 0 ∙ e; writes = length-replicate n 0 ∙ e }; reads = no-marks n; writes = no-marks n }
+    let size = length-replicate {A = ℕ} n 0 ∙ e in
+    record { sized = record { memory = l; reads = size; writes = size }; reads = no-marks n; writes = no-marks n }
 
 pub reads-stay : (t : List Event) (w : World) (k : ℕ) → k < 65536 → Sized w → isMarked (w .reads) k ≡ true → isMarked (replay t w .reads) k ≡ true
 reads-stay t w k h s e = rw (reads-replay k h t w s, e)
