@@ -152,23 +152,25 @@ uint64_t spc700_differences(
 
 /* Blanks a memory: puts one byte at every address that a map does not mark.
  *
- * memory   65,536 bytes, which the call changes in place: only at unmarked addresses. Of an SPC file it is file + 256
- *          (SPC700_FILE_MEMORY).
+ * memory   65,536 bytes, which the call changes in place: only at unmarked addresses. It may be the memory of an SPC file, at file + 256
+ *          (SPC700_FILE_MEMORY), or of a state record, at record + 7 (SPC700_RECORD_MEMORY).
  * map      a map, as spc700_step keeps them. It stays as it is.
  * byte     0 to 255.
  *
- * Answers how many addresses are not marked as the number: each of them was given the byte, also where it had it before.
+ * The number that it answers is how many addresses the map does not mark. Each of them was given the byte, also where it had it before. A
+ * map without marks, which a refused run leaves, blanks everything.
  *
- * What it is for. Keep a copy of an image, since a run stores in its memory; run the one from maps of zeros, and blank the other by the
- * `reads` that the run left. Then a run on the blanked copy from maps of zeros, with the same registers, edition and budget, gives the
- * same registers, steps, stop and maps, and equal bytes at every address that is marked in `writes`; every other address keeps its own
- * memory's byte. So it is with every map that has at least these marks: mark what else is to stay, and for an image that serves several
- * runs put their maps together, each byte of the one | that of the other. Nothing is left of what stood at unmarked addresses: any two
- * images that are equal at the marked ones become the same.
+ * What it is for. Keep a copy of the registers and of the image, since a run changes both. Run from maps of zeros, look at the refusal, and
+ * blank the copy of the image by the `reads` that the run left. Then a run on the blanked copy from maps of zeros, with the registers that
+ * were kept and the same edition and budget, gives the same registers, steps, stop and maps, and equal bytes at every address that is
+ * marked in `writes`; every other address keeps its own memory's byte. So it is with every map that has at least these marks: mark what
+ * else is to stay, and for an image that serves several runs put their maps together, each byte of the one | that of the other. Nothing is
+ * left in the memory of what stood at unmarked addresses: any two images that are equal at the marked ones become the same.
  *
  * What it does not cover. Samples that the sound chip fetches by itself leave no mark. A run with a larger budget, with other registers
- * (another tune) or in the other edition may read more than the map marks. Timers, ports and sound chip at 00F0 to 00FF are plain memory
- * here, so a player that answers them may go another way, and read more.
+ * (another tune) or in the other edition may read more than the map marks. Timers, ports and sound chip at 00F0 to 00FF and the boot ROM
+ * at FFC0 to FFFF are plain memory here, so a player that has them may go another way, and read more. And of an SPC file it blanks the
+ * memory alone: titles, and whatever else stands before and behind it, stay.
  * Refusals: 1, 2. */
 uint64_t spc700_blank(
     uint8_t *memory, size_t memory_length,

@@ -4,7 +4,7 @@ from library import lent, number
 MEMORY, MAP = 65536, 8192
 
 
-# ---- maps: address k is bit k mod 8 of byte k div 8
+# ---- maps: eight addresses to a byte, the lowest of them in the bit of value 1
 
 
 def marked(map_, k):
