@@ -31,13 +31,18 @@ get-together (a ∷ map) [] i = sym (or-zero-r (getD (a ∷ map) i 0))
 get-together (a ∷ map) (b ∷ other) zero = refl
 get-together (a ∷ map) (b ∷ other) (suc i) = get-together map other i
 
+length-together : (map other : List ℕ) → length map ≡ length other → length (together map other) ≡ length map
+length-together [] other e = sym e
+length-together (a ∷ map) [] e = refl
+length-together (a ∷ map) (b ∷ other) e = ap suc (length-together map other (omega arith))
+
 either-bit : (x y j : ℕ) → eqb (bitOr x y / 2 ^ j % 2) 1 ≡ (eqb (x / 2 ^ j % 2) 1 || eqb (y / 2 ^ j % 2) 1)
 either-bit x y j =
     rw or-bit
     (same-grid 2 2 (λ m n. eqb (bitOr m n) 1) (λ m n. eqb m 1 || eqb n 1) refl (x / 2 ^ j % 2) (y / 2 ^ j % 2) (omega arith) (omega arith))
 
 module _ (map other : List ℕ) where
-  -- They mark what either of them marks,
+  -- Maps put together mark what either of them marks,
   pub marks-of-either : (k : ℕ) → isMarked (together map other) k ≡ (isMarked map k || isMarked other k)
   marks-of-either k = rw (get-together map other (k / 8)) (either-bit (getD map (k / 8) 0) (getD other (k / 8) 0) (k % 8))
 
@@ -48,17 +53,9 @@ module _ (map other : List ℕ) where
   pub keeps-second : Keeps other (together map other)
   keeps-second = record { marks = λ k h e. rw (marks-of-either k, e) (or-true (isMarked map k)) }
 
-  same-length : length map ≡ length other → length (together map other) ≡ length map
-  same-length = lengths map other
-    where
-      lengths : (map other : List ℕ) → length map ≡ length other → length (together map other) ≡ length map
-      lengths [] other e = sym e
-      lengths (a ∷ map) [] e = refl
-      lengths (a ∷ map) (b ∷ other) e = ap suc (lengths map other (omega arith))
-
-  -- Of two maps of 8,192 bytes it is one.
+  -- Maps of 8,192 bytes make one of 8,192 bytes.
   pub together-size : length map ≡ 8192 → length other ≡ 8192 → length (together map other) ≡ 8192
-  together-size one two = same-length (one ∙ sym two) ∙ one
+  together-size one two = length-together map other (one ∙ sym two) ∙ one
 
 -- So an image that is blanked by the read maps of two runs of it, put together, gives both runs.
 module _ (image : List ℕ) (size : length image ≡ 65536) (byte : ℕ)
