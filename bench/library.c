@@ -10,9 +10,11 @@ long read(int file, void *to, size_t length);
 static struct {
     uint8_t edition;
     uint8_t budget[4];
-    uint8_t registers[SPC700_REGISTERS];
+    uint8_t record[SPC700_RECORD_MEMORY];
     uint8_t memory[SPC700_MEMORY];
 } input;
+/* the record's seven bytes, and awake behind them */
+static uint8_t registers[SPC700_REGISTERS];
 static uint8_t reads[SPC700_MAP], writes[SPC700_MAP];
 
 /* Whether standard input held the whole input. */
@@ -37,7 +39,9 @@ int main(void)
     uint32_t budget = 0;
     for (int i = 3; i >= 0; i--)
         budget = budget << 8 | input.budget[i];
-    uint64_t answer = spc700_run(input.registers, sizeof input.registers, input.edition, budget, input.memory, sizeof input.memory,
+    for (size_t i = 0; i < sizeof input.record; i++)
+        registers[i] = input.record[i];
+    uint64_t answer = spc700_run(registers, sizeof registers, input.edition, budget, input.memory, sizeof input.memory,
                                  reads, sizeof reads, writes, sizeof writes);
     if (spc700_refusal(answer)) {
         printf("library: refused %d\n", spc700_refusal(answer));

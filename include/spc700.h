@@ -1,5 +1,5 @@
-/* The SPC700 for C and C++: one step, a run, a count of marks, what differs between two memories, blanked images, one instruction's text,
- * SPC files and state records.
+/* The SPC700 for C and C++: one step, a run, a wake, a count of marks, what differs between two memories, blanked images, one
+ * instruction's text, SPC files and state records.
  *
  * The functions are those of the proved crate `exports`. `rt staticlib exports` writes them to target/staticlib/libexports.a, for
  * programs on x86-64 Linux:
@@ -39,7 +39,7 @@ extern "C" {
 
 /* How many bytes registers, memory, each map, an SPC file and a state record have, how many numbers a count of marks gives, and how many
  * are room enough for the differences between any two memories. */
-#define SPC700_REGISTERS 7
+#define SPC700_REGISTERS 8
 #define SPC700_MEMORY 65536
 #define SPC700_MAP 8192
 #define SPC700_FILE 66048
@@ -50,42 +50,51 @@ extern "C" {
 /* Where in an SPC file the memory begins. */
 #define SPC700_FILE_MEMORY 256
 
-/* Where in a state record the memory begins: behind the registers. */
+/* Where in a state record the memory begins: behind the first seven bytes of the registers. It has no place for the eighth. */
 #define SPC700_RECORD_MEMORY 7
+
+/* Where in the registers the state stands, and what it can be. */
+#define SPC700_STATE 7
+#define SPC700_AWAKE 0
+#define SPC700_SLEPT 1   /* SLEEP was executed */
+#define SPC700_STOPPED 2 /* STOP was executed */
 
 /* Refusals. Where a call could be refused for several reasons, the one that stands first in its own list of refusals below is answered. */
 #define SPC700_WRONG_MEMORY 1    /* memory is not 65,536 bytes */
 #define SPC700_WRONG_MAP 2       /* a map is not 8,192 bytes */
 #define SPC700_NO_ROOM 3         /* the text is longer than its buffer, or the stretches are more than the row has room for */
 #define SPC700_CUT 4             /* fewer bytes than the instruction has */
-#define SPC700_WRONG_REGISTERS 6 /* the registers are not 7 bytes */
+#define SPC700_WRONG_REGISTERS 6 /* the registers are not 8 bytes, or the last of them is above 2 */
 #define SPC700_WRONG_COUNTS 6    /* the row for a count is not 3 numbers */
 #define SPC700_WRONG_RECORD 6    /* the state record is not 65,543 bytes */
 #define SPC700_WRONG_FILE 7      /* the file is not 66,048 bytes */
 #define SPC700_NO_SPC_FILE 8     /* the file's first 33 bytes are not those of an SPC file */
 #define SPC700_NO_EDITION 9      /* there is no edition of this number */
 #define SPC700_NOT_DEFAULT 10    /* a byte of the file that a state record has no place for is not its default */
+#define SPC700_NOT_AWAKE 12      /* registers that are to go into a file are not awake */
 
-/* Why a run stopped. A step has the same stops: 0 where its instruction was neither of the two. */
-#define SPC700_STOP_BUDGET 0 /* as many steps as the budget allows were taken */
-#define SPC700_STOP_SLEEP 1  /* SLEEP was executed */
-#define SPC700_STOP_STOP 2   /* STOP was executed */
+/* Why a run stopped: it is the state that the registers are in afterwards. A step has the same stops. */
+#define SPC700_STOP_BUDGET 0 /* they are awake: as many steps as the budget allows were taken */
+#define SPC700_STOP_SLEEP 1  /* SLEEP was executed, as the last step of this call or in an earlier one */
+#define SPC700_STOP_STOP 2   /* STOP was executed, likewise */
 
 /* The editions of the pointer rule. They differ in one thing: where the pointer of [d]+Y and of [d+X] has its second byte if its first
  * one is the last byte of a page. A run that is to be repeated has to be given the same edition. */
 #define SPC700_EDITION_CRATE 1 /* as the Rust crate spc700 does: at the next address, so behind 00FF comes 0100 */
 #define SPC700_EDITION_PART 2  /* as the part does: at the first address of the same page, so behind 00FF comes 0000, behind 01FF 0100 */
 
-/* Takes one step.
+/* Takes one step if the registers are awake; else it takes none, and nothing changes.
  *
- * registers   A X Y SP PC-low PC-high PSW, one byte each; PSW is N V P B H I Z C from bit 7 to bit 0. The step leaves them as they
- *             are after it.
+ * registers   A X Y SP PC-low PC-high PSW and the state, one byte each; PSW is N V P B H I Z C from bit 7 to bit 0. The state is 0, 1 or 2:
+ *             awake, slept or stopped. Begin with 0. The step leaves them as they are after it: SLEEP sets the state to 1, STOP to 2, and
+ *             no other instruction changes it.
  * edition     1 or 2, of the pointer rule.
  * memory      the byte of each address. The step stores in it.
  * reads       a map: address k is bit k mod 8 of byte k div 8. The step marks each address that it reads while `writes` lacks it.
  * writes      a map, too. The step marks each address that it stores to. No call clears a mark: start with maps of zeros.
  *
- * Answers the stop, and 1 as the number: the steps taken. SLEEP and STOP count as steps; a later call goes on behind them.
+ * Answers the stop, and as the number the steps taken: 1, or 0 where the registers were not awake. SLEEP and STOP count as steps. No later
+ * call goes on behind them until spc700_wake was called.
  * Refusals: 6, 9, 1, 2. */
 uint64_t spc700_step(
     uint8_t *registers, size_t registers_length,
@@ -97,7 +106,9 @@ uint64_t spc700_step(
 /* Takes steps until `budget` of them are taken (stop 0), SLEEP was executed (stop 1) or STOP was executed (stop 2), whichever comes
  * first; SLEEP or STOP as the last step of the budget is stop 1 or 2. Regions and edition are those of spc700_step.
  *
- * Answers the stop, and the steps taken as the number. With budget 0 nothing changes.
+ * Answers the stop, and the steps taken as the number. With budget 0 nothing changes. With registers that are not awake nothing changes
+ * either, whatever the budget: their state is the stop, and the number is 0. So a call that is made again after stop 1 or 2 answers that
+ * stop and 0 steps, and a run that is cut into parts, each from what the one before it left, is the run in one with the steps of all.
  * Refusals: 6, 9, 1, 2. */
 uint64_t spc700_run(
     uint8_t *registers, size_t registers_length,
@@ -106,6 +117,16 @@ uint64_t spc700_run(
     uint8_t *memory, size_t memory_length,
     uint8_t *reads, size_t reads_length,
     uint8_t *writes, size_t writes_length);
+
+/* Wakes: sets the state of the registers to 0, awake, whichever it was, and changes no other byte. A step or a run then goes on at PC,
+ * which SLEEP and STOP leave behind themselves. What would wake the part comes from outside and is not built here: whoever calls this
+ * decides that it came.
+ *
+ * registers   as spc700_step takes them.
+ *
+ * Answers 0: stop and number are 0, too.
+ * Refusals: 6. */
+uint64_t spc700_wake(uint8_t *registers, size_t registers_length);
 
 /* Counts the marks of both maps: every marked address once, by the way in which it is marked.
  *
@@ -191,7 +212,8 @@ uint64_t spc700_text(
 /* Reads the registers out of an SPC file, of which no byte changes.
  *
  * file        66,048 bytes. The first 33 are `SNES-SPC700 Sound File Data v0.30`.
- * registers   as spc700_step takes them, which the call writes.
+ * registers   8 bytes, which the call writes, as spc700_step takes them; what they held does not matter, so none of it is refused. A file
+ *             has no place for the state: they are awake.
  *
  * The memory needs no call: where this one is not refused, it is the 65,536 bytes at file + 256 (SPC700_FILE_MEMORY). Files often go on
  * behind byte 66,047, with tags. Such a file is refused with 7 where all of it is lent: lend the first 66,048 bytes.
@@ -205,11 +227,12 @@ uint64_t spc700_file_read(
 /* Writes registers and memory into an SPC file. Its bytes 37 to 43 and 256 to 65,791 are written; all others stay as they are.
  *
  * file        as spc700_file_read takes it. The first 33 bytes must stand there already: the call makes no file out of other bytes.
- * registers   as spc700_step takes them. They stay as they are.
+ * registers   as spc700_step takes them, and awake: a file has no place for the state, and would give back slept or stopped ones as awake.
+ *             They stay as they are.
  * memory      65,536 bytes, which stay as they are. It is no part of `file`, since no two regions overlap.
  *
  * Answers 0: stop and number are 0, too.
- * Refusals: 6, 7, 8, 1. */
+ * Refusals: 6, 7, 8, 1, 12. */
 uint64_t spc700_file_write(
     uint8_t *file, size_t file_length,
     const uint8_t *registers, size_t registers_length,
@@ -220,7 +243,8 @@ uint64_t spc700_file_write(
  * file     66,048 bytes: the signature, the registers at 37 to 43, in the file's own order, the memory at 256 to 65,791. The other bytes
  *          get their defaults: 26, 26, 27, 30 at 33 to 36, and zero at 44 to 255 and at 65,792 to 66,047. So it has zeros where files
  *          have titles and the sound chip's registers.
- * record   65,543 bytes, which stay as they are: the registers as spc700_step takes them, and the memory behind them.
+ * record   65,543 bytes, which stay as they are: the first seven bytes of the registers as spc700_step takes them, and the memory behind
+ *          them.
  *
  * Answers 0: stop and number are 0, too.
  * Refusals: 6, 7. */

@@ -47,6 +47,11 @@ def changed(rng, memory, addresses):
 # ---- runs
 
 
+def random_registers(rng, state=0):
+    """Eight bytes as the library takes them: any registers, awake if no other state is asked for."""
+    return rng.randbytes(7) + bytes([state])
+
+
 def played(library, registers, edition, budget, memory):
     """What a run from clear maps answers, and the registers, memory and maps that it leaves."""
     given = registers, number(edition), number(budget), memory, bytes(MAP), bytes(MAP)

@@ -62,6 +62,8 @@ static int put_region(const struct region *r) { return put(r->as.bytes, r->lengt
 static int regions(char kind)
 {
     switch (kind) {
+    case 'k':
+        return 1;
     case 'r':
     case 'f':
     case 's':
@@ -70,6 +72,7 @@ static int regions(char kind)
     case 'b':
         return 3;
     case 'd':
+    case 't':
         return 5;
     case 'n':
         return 6;
@@ -93,6 +96,10 @@ static uint64_t call(char kind)
         return spc700_differences(LENT(0), LENT(1), (uint8_t)NUMBER(2), LENT(3), ROW(4));
     case 'b':
         return spc700_blank(LENT(0), LENT(1), (uint8_t)NUMBER(2));
+    case 'k':
+        return spc700_wake(LENT(0));
+    case 't':
+        return spc700_step(LENT(0), (uint8_t)NUMBER(1), LENT(2), LENT(3), LENT(4));
     default:
         return spc700_run(LENT(0), (uint8_t)NUMBER(1), NUMBER(2), LENT(3), LENT(4), LENT(5));
     }

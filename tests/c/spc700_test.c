@@ -1,4 +1,4 @@
-/* The static library as a C program sees it: steps, runs, counts and texts, every refusal of these calls, and that a refused call changes
+/* The static library as a C program sees it: steps, runs, wakes, counts and texts, every refusal of these calls, and that a refused call changes
  * nothing. (The calls on SPC files are tried by tests/files, the comparison by tests/differences, blanking by tests/blanking.) Prints a
  * line for each check and a last line that counts them; exit status 0 only if all hold. tests/exports compiles and runs it. */
 #include "spc700.h"
@@ -50,7 +50,7 @@ static int unchanged(void) { return same(&now, &before, sizeof now); }
 
 static uint64_t answer(uint64_t refusal, uint64_t stop, uint64_t number) { return refusal << 40 | stop << 32 | number; }
 
-/* A=7D X=Y=0 SP=EF PC=0200 PSW=01, clear maps, and memory zero but for three bytes of code at 0200. */
+/* A=7D X=Y=0 SP=EF PC=0200 PSW=01, awake, clear maps, and memory zero but for three bytes of code at 0200. */
 static void start(uint8_t first, uint8_t second, uint8_t third)
 {
     static const uint8_t registers[SPC700_REGISTERS] = {0x7D, 0, 0, 0xEF, 0x00, 0x02, 0x01};
@@ -90,9 +90,9 @@ static int counts_are(uint32_t read_only, uint32_t stored_only, uint32_t both)
     return count() == 0 && row[0] == read_only && row[1] == stored_only && row[2] == both;
 }
 
-static int registers_are(uint8_t a, uint8_t pc_low, uint8_t psw)
+static int registers_are(uint8_t a, uint8_t pc_low, uint8_t psw, uint8_t state)
 {
-    const uint8_t expected[SPC700_REGISTERS] = {a, 0, 0, 0xEF, pc_low, 0x02, psw};
+    const uint8_t expected[SPC700_REGISTERS] = {a, 0, 0, 0xEF, pc_low, 0x02, psw, state};
     return same(now.registers, expected, sizeof expected);
 }
 
@@ -105,13 +105,13 @@ static void runs(void)
     check("run: stop 1", spc700_stop(got) == SPC700_STOP_SLEEP);
     check("run: 2 steps", spc700_number(got) == 2);
     check("run: nothing else in the answer", got == answer(0, 1, 2));
-    check("run: A=83 PC=0203 PSW=C8, the others as they were", registers_are(0x83, 0x03, 0xC8));
+    check("run: A=83 PC=0203 PSW=C8, slept, the others as they were", registers_are(0x83, 0x03, 0xC8, SPC700_SLEPT));
     check("run: 3 addresses read, 0200 to 0202, none written", counts_are(3, 0, 0) && now.reads[0x40] == 0x07);
     check("run: memory as it was", same(now.memory, before.memory, sizeof now.memory));
 
     start(0x88, 0x05, 0xEF);
-    check("run: budget 1 is one step, stop 0", run(RIGHT, 1) == answer(0, 0, 1) && registers_are(0x83, 0x02, 0xC8));
-    check("run: the next call goes on", run(RIGHT, 1) == answer(0, 1, 1) && registers_are(0x83, 0x03, 0xC8));
+    check("run: budget 1 is one step, stop 0", run(RIGHT, 1) == answer(0, 0, 1) && registers_are(0x83, 0x02, 0xC8, SPC700_AWAKE));
+    check("run: the next call goes on", run(RIGHT, 1) == answer(0, 1, 1) && registers_are(0x83, 0x03, 0xC8, SPC700_SLEPT));
 
     start(0x88, 0x05, 0xEF);
     check("run: budget 0 does nothing", run(RIGHT, 0) == 0 && unchanged());
@@ -124,21 +124,96 @@ static void steps(void)
 {
     start(0x88, 0x05, 0xEF);
     check("step: 1 step, stop 0", step(RIGHT) == answer(0, 0, 1));
-    check("step: A=83 PC=0202 PSW=C8", registers_are(0x83, 0x02, 0xC8));
+    check("step: A=83 PC=0202 PSW=C8, awake", registers_are(0x83, 0x02, 0xC8, SPC700_AWAKE));
     check("step: 2 addresses read", counts_are(2, 0, 0) && now.reads[0x40] == 0x03);
-    check("step: SLEEP is stop 1", step(RIGHT) == answer(0, 1, 1) && registers_are(0x83, 0x03, 0xC8));
+    check("step: SLEEP is stop 1", step(RIGHT) == answer(0, 1, 1) && registers_are(0x83, 0x03, 0xC8, SPC700_SLEPT));
 
     start(0xFF, 0, 0);
-    check("step: STOP is stop 2", step(RIGHT) == answer(0, 2, 1));
+    check("step: STOP is stop 2", step(RIGHT) == answer(0, 2, 1) && registers_are(0x7D, 0x01, 0x01, SPC700_STOPPED));
 
     start(0xC4, 0x10, 0);
-    check("step: MOV $10,A is one step", step(RIGHT) == answer(0, 0, 1) && registers_are(0x7D, 0x02, 0x01));
+    check("step: MOV $10,A is one step", step(RIGHT) == answer(0, 0, 1) && registers_are(0x7D, 0x02, 0x01, SPC700_AWAKE));
     check("step: it stores A", now.memory[0x10] == 0x7D);
     check("step: it marks 0010 as written, and nothing else", counts_are(2, 1, 0) && now.writes[2] == 0x01);
 
     start(0xAB, 0x10, 0);
     check("step: INC $10 is one step", step(RIGHT) == answer(0, 0, 1));
     check("step: it reads 0010, and then stores there", counts_are(2, 0, 1) && now.writes[2] == 0x01);
+
+    int others = 1;
+    for (unsigned opcode = 0; opcode < 256; opcode++) {
+        start((uint8_t)opcode, 0x10, 0x20);
+        uint8_t state = opcode == 0xEF ? SPC700_SLEPT : opcode == 0xFF ? SPC700_STOPPED : SPC700_AWAKE;
+        others &= step(RIGHT) == answer(0, state, 1) && now.registers[SPC700_STATE] == state;
+    }
+    check("step: of all opcodes, SLEEP and STOP alone change the state", others);
+}
+
+/* From here on nothing changes, whatever step or run is made: each answers this stop and 0 steps. */
+static int rests(uint8_t stop)
+{
+    static const uint32_t budgets[] = {0, 1, 9, 4294967295};
+    int holds = 1;
+    before = now;
+    for (edition = SPC700_EDITION_PART; edition >= SPC700_EDITION_CRATE; edition--) {
+        holds &= step(RIGHT) == answer(0, stop, 0) && unchanged();
+        for (size_t i = 0; i < sizeof budgets / sizeof budgets[0]; i++)
+            holds &= run(RIGHT, budgets[i]) == answer(0, stop, 0) && unchanged();
+    }
+    edition = SPC700_EDITION_CRATE;
+    return holds;
+}
+
+/* A wake answers 0, leaves the state awake, and changes nothing else. */
+static int wakes(void)
+{
+    before = now;
+    before.registers[SPC700_STATE] = SPC700_AWAKE;
+    return spc700_wake(now.registers, SPC700_REGISTERS) == 0 && unchanged();
+}
+
+/* A wake that is told this length, of registers in this state, is refused with 6 and changes nothing. */
+static int refuses_wake(size_t length, uint8_t state)
+{
+    start(0, 0, 0);
+    before.registers[SPC700_STATE] = now.registers[SPC700_STATE] = state;
+    return spc700_wake(now.registers, length) == answer(SPC700_WRONG_REGISTERS, 0, 0) && unchanged();
+}
+
+/* SLEEP or STOP, and then INC A: the record stays at rest behind the first, and goes on at the second once it is woken. */
+static int goes_on_when_woken(uint8_t opcode, uint8_t stop)
+{
+    start(opcode, 0xBC, 0xFF);
+    int holds = run(RIGHT, 9) == answer(0, stop, 1) && registers_are(0x7D, 0x01, 0x01, stop) && rests(stop) && wakes() && wakes();
+    return holds && run(RIGHT, 1) == answer(0, 0, 1) && registers_are(0x7E, 0x02, 0x01, SPC700_AWAKE);
+}
+
+static void waking(void)
+{
+    check("rest: behind SLEEP until it is woken", goes_on_when_woken(0xEF, SPC700_STOP_SLEEP));
+    check("rest: behind STOP until it is woken", goes_on_when_woken(0xFF, SPC700_STOP_STOP));
+
+    int every = 1;
+    for (unsigned i = 0; i < 256 * 3; i++) {
+        start(0, 0, 0);
+        fill(now.registers, (uint8_t)(i / 3), SPC700_STATE);
+        now.registers[SPC700_STATE] = (uint8_t)(i % 3);
+        every &= wakes();
+    }
+    check("wake: of every state, with every byte in all other registers", every);
+
+    int lengths = 1, states = 1;
+    for (size_t length = 0; length <= SPC700_REGISTERS + 1; length++)
+        if (length != SPC700_REGISTERS)
+            lengths &= refuses_wake(length, SPC700_SLEPT);
+    for (unsigned state = 3; state < 256; state++) {
+        states &= refuses_wake(SPC700_REGISTERS, (uint8_t)state);
+        start(0xC4, 0x10, 0xEF);
+        before.registers[SPC700_STATE] = now.registers[SPC700_STATE] = (uint8_t)state;
+        states &= step(RIGHT) == answer(6, 0, 0) && run(RIGHT, 9) == answer(6, 0, 0) && run(RIGHT, 0) == answer(6, 0, 0) && unchanged();
+    }
+    check("wake: refused 6: every other length up to 9", lengths);
+    check("refused 6: a wake, a step and a run with every byte that names no state", states);
 }
 
 /* MUL of every two bytes, held to C's own product: the library makes it by additions. */
@@ -150,8 +225,8 @@ static void products(void)
         uint8_t a = pair % 256, y = pair / 256;
         unsigned product = y * a;
         uint8_t high = product / 256, flags = high >= 0x80 ? 0x80 : high == 0 ? 0x02 : 0;
-        const uint8_t given[] = {a, 0x5A, y, 0xEF, 0x00, 0x02, 0xFF ^ flags};
-        const uint8_t expected[] = {product % 256, 0x5A, high, 0xEF, 0x01, 0x02, 0x7D | flags};
+        const uint8_t given[] = {a, 0x5A, y, 0xEF, 0x00, 0x02, 0xFF ^ flags, SPC700_AWAKE};
+        const uint8_t expected[] = {product % 256, 0x5A, high, 0xEF, 0x01, 0x02, 0x7D | flags, SPC700_AWAKE};
         for (size_t i = 0; i < sizeof given; i++)
             now.registers[i] = given[i];
         holds &= step(RIGHT) == answer(0, 0, 1) && same(now.registers, expected, sizeof expected);
@@ -169,19 +244,19 @@ static void refuses(const char *what, struct lengths n, uint64_t refusal)
 static void refusals(void)
 {
     refuses("refused 6: no registers", (struct lengths){0, 65536, 8192, 8192}, SPC700_WRONG_REGISTERS);
-    refuses("refused 6: 6 bytes of registers", (struct lengths){6, 65536, 8192, 8192}, SPC700_WRONG_REGISTERS);
-    refuses("refused 6: 8 bytes of registers", (struct lengths){8, 65536, 8192, 8192}, SPC700_WRONG_REGISTERS);
-    refuses("refused 1: no memory", (struct lengths){7, 0, 8192, 8192}, SPC700_WRONG_MEMORY);
-    refuses("refused 1: 65,535 bytes of memory", (struct lengths){7, 65535, 8192, 8192}, SPC700_WRONG_MEMORY);
-    refuses("refused 1: 65,537 bytes of memory", (struct lengths){7, 65537, 8192, 8192}, SPC700_WRONG_MEMORY);
-    refuses("refused 2: 8,191 bytes of the read map", (struct lengths){7, 65536, 8191, 8192}, SPC700_WRONG_MAP);
-    refuses("refused 2: 8,193 bytes of the read map", (struct lengths){7, 65536, 8193, 8192}, SPC700_WRONG_MAP);
-    refuses("refused 2: 8,191 bytes of the written map", (struct lengths){7, 65536, 8192, 8191}, SPC700_WRONG_MAP);
-    refuses("refused 2: 8,193 bytes of the written map", (struct lengths){7, 65536, 8192, 8193}, SPC700_WRONG_MAP);
-    refuses("refused 6 before 1", (struct lengths){6, 65535, 8192, 8192}, SPC700_WRONG_REGISTERS);
-    refuses("refused 6 before 2", (struct lengths){6, 65536, 8191, 8191}, SPC700_WRONG_REGISTERS);
-    refuses("refused 1 before 2", (struct lengths){7, 65535, 8191, 8191}, SPC700_WRONG_MEMORY);
-    refuses("refused 6 before 1 and 2", (struct lengths){8, 65537, 8193, 8193}, SPC700_WRONG_REGISTERS);
+    refuses("refused 6: 7 bytes of registers", (struct lengths){7, 65536, 8192, 8192}, SPC700_WRONG_REGISTERS);
+    refuses("refused 6: 9 bytes of registers", (struct lengths){9, 65536, 8192, 8192}, SPC700_WRONG_REGISTERS);
+    refuses("refused 1: no memory", (struct lengths){8, 0, 8192, 8192}, SPC700_WRONG_MEMORY);
+    refuses("refused 1: 65,535 bytes of memory", (struct lengths){8, 65535, 8192, 8192}, SPC700_WRONG_MEMORY);
+    refuses("refused 1: 65,537 bytes of memory", (struct lengths){8, 65537, 8192, 8192}, SPC700_WRONG_MEMORY);
+    refuses("refused 2: 8,191 bytes of the read map", (struct lengths){8, 65536, 8191, 8192}, SPC700_WRONG_MAP);
+    refuses("refused 2: 8,193 bytes of the read map", (struct lengths){8, 65536, 8193, 8192}, SPC700_WRONG_MAP);
+    refuses("refused 2: 8,191 bytes of the written map", (struct lengths){8, 65536, 8192, 8191}, SPC700_WRONG_MAP);
+    refuses("refused 2: 8,193 bytes of the written map", (struct lengths){8, 65536, 8192, 8193}, SPC700_WRONG_MAP);
+    refuses("refused 6 before 1", (struct lengths){7, 65535, 8192, 8192}, SPC700_WRONG_REGISTERS);
+    refuses("refused 6 before 2", (struct lengths){7, 65536, 8191, 8191}, SPC700_WRONG_REGISTERS);
+    refuses("refused 1 before 2", (struct lengths){8, 65535, 8191, 8191}, SPC700_WRONG_MEMORY);
+    refuses("refused 6 before 1 and 2", (struct lengths){9, 65537, 8193, 8193}, SPC700_WRONG_REGISTERS);
 }
 
 static int marked(const uint8_t *map, unsigned at) { return map[at / 8] >> at % 8 & 1; }
@@ -242,11 +317,11 @@ static void editions(void)
     refuses("refused 9: edition 3", RIGHT, SPC700_NO_EDITION);
     edition = 255;
     refuses("refused 9: edition 255", RIGHT, SPC700_NO_EDITION);
-    refuses("refused 6 before 9", (struct lengths){6, 65536, 8192, 8192}, SPC700_WRONG_REGISTERS);
-    refuses("refused 9 before 1", (struct lengths){7, 65535, 8192, 8192}, SPC700_NO_EDITION);
-    refuses("refused 9 before 2", (struct lengths){7, 65536, 8191, 8193}, SPC700_NO_EDITION);
+    refuses("refused 6 before 9", (struct lengths){7, 65536, 8192, 8192}, SPC700_WRONG_REGISTERS);
+    refuses("refused 9 before 1", (struct lengths){8, 65535, 8192, 8192}, SPC700_NO_EDITION);
+    refuses("refused 9 before 2", (struct lengths){8, 65536, 8191, 8193}, SPC700_NO_EDITION);
     edition = SPC700_EDITION_PART;
-    refuses("refused 1 in edition 2", (struct lengths){7, 65535, 8192, 8192}, SPC700_WRONG_MEMORY);
+    refuses("refused 1 in edition 2", (struct lengths){8, 65535, 8192, 8192}, SPC700_WRONG_MEMORY);
     edition = SPC700_EDITION_CRATE;
 }
 
@@ -393,6 +468,7 @@ int main(void)
 {
     runs();
     steps();
+    waking();
     products();
     refusals();
     editions();

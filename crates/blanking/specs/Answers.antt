@@ -17,9 +17,9 @@ use Rattle.processor.specs.declared.Processor.{Processor}
 use Rattle.runs.specs.Same.{Same}
 use Rattle.runs.proofs.Exact.{no-marks}
 use Rattle.engine.specs.Entry.{refusalOf, runAnswer}
+use Rattle.engine.specs.Accepted.{sized}
 use Rattle.engine.specs.Provenance.{clear, played, accepted-sized}
 use Rattle.engine.specs.declared.Ran.{Ran}
-use Rattle.engine.proofs.Laws.{sized}
 use Rattle.blanking.specs.Calls.{blankOf}
 use Rattle.blanking.specs.Theorems.{same-length, same-run-with-more}
 
@@ -41,7 +41,7 @@ module _ (number budget : ℕ) (cpu : Processor) where
   answerTo image = runAnswer number budget cpu (world image clear clear)
 
   right-size : (image : List ℕ) → refusalOf number (world image clear clear) ≡ 0 → length image ≡ 65536
-  right-size image z = sized number (world image clear clear) z refl .memory
+  right-size image z = sized number (world image clear clear) z .memory
 
   in-edition : (image : List ℕ) → refusalOf number (world image clear clear) ≡ 0
       → answerTo image ≡ played (editionOf number) budget cpu image

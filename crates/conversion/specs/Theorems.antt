@@ -174,6 +174,7 @@ module _ (state : List ℕ) (size : length state ≡ 65543) where
 
   -- and the record of that file is the record.
   pub record-again : Bytes state → recordOf (fileOf state) ≡ state
+  unfolding registersOf
   record-again bytes =
       let cpu = registersOf (take 7 state) in
       let seven = bytes-to-record-and-back (take 7 state) (seven-small bytes) (length-take-le 7 state (omega arith)) in
@@ -193,6 +194,7 @@ module _ (file : List ℕ) where
 
   -- The file of such a file's record is the file.
   pub file-again : Bytes file → Plain file → fileOf (recordOf file) ≡ file
+  unfolding recordIn
   file-again bytes p =
       let cpu = recordIn file in
       let memory = memoryIn file in

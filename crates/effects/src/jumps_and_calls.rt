@@ -10,13 +10,13 @@ use crate::kinds::branch_if;
 use crate::kinds::raise_x;
 use crate::kinds::registers;
 use crate::kinds::set_pc;
-use crate::kinds::stopping;
 use crate::kinds::storing;
 use crate::kinds::storing_byte;
 use instructions::Effect;
 use instructions::Operands;
 use instructions::Stores;
 use psw::ProgramStatusWord;
+use waking::State;
 
 // The effect of an opcode of column F.
 pub fn jumps_and_calls(opcode: u8, o: Operands) -> Effect
@@ -39,8 +39,8 @@ pub fn jumps_and_calls(opcode: u8, o: Operands) -> Effect
         opcodes::MOV_A_XINC => load_a_inc(o),
         opcodes::MUL_YA => registers(cpu.mul()),
         opcodes::DAA_A => registers(cpu.daa()),
-        opcodes::SLEEP => stopping(cpu, 1),
-        _ => stopping(cpu, 2),
+        opcodes::SLEEP => registers(cpu.with_state(State::Slept)),
+        _ => registers(cpu.with_state(State::Stopped)),
     }
 }
 

@@ -1,6 +1,5 @@
 // Kinds of effect: where what an operation produced goes.
 ghost use mathlib.Core.Path.{_≡_};
-ghost use mathlib.Core.Bool.{false};
 ghost use Rattle.processor.specs.Record.{withFlags, withA, withX, withY, withSp, withPc, withCarry};
 ghost use Rattle.instructions.specs.Effects as effects;
 use instructions::Effect;
@@ -19,7 +18,6 @@ pub fn registers(cpu: Processor) -> Effect
         cpu,
         stores: Stores::Nothing,
         taken: false,
-        stop: 0,
     }
 }
 
@@ -31,19 +29,6 @@ pub fn storing(cpu: Processor, stores: Stores) -> Effect
         cpu,
         stores,
         taken: false,
-        stop: 0,
-    }
-}
-
-// The run stops.
-pub fn stopping(cpu: Processor, stop: u8) -> Effect
-    ensures { λ r. ⌜ r ≡ effects.effect cpu Stores.Nothing false stop ⌝ }
-{
-    Effect {
-        cpu,
-        stores: Stores::Nothing,
-        taken: false,
-        stop,
     }
 }
 
@@ -162,14 +147,12 @@ pub fn branching(cpu: Processor, stores: Stores, taken: bool) -> Effect
             cpu,
             stores,
             taken: true,
-            stop: 0,
         };
     }
     Effect {
         cpu: modes::past(cpu),
         stores,
         taken: false,
-        stop: 0,
     }
 }
 

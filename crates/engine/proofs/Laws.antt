@@ -1,36 +1,23 @@
 -- What a refusal number, 0 or not, says of the lengths and of the answer; phases by cases.
 -- Assumes nothing.
 use Prim.Native.Nat.{ℕ}
-use mathlib.Core.Path.{_≡_, refl, sym, _∙_}
-use mathlib.Core.Bool.{Bool, true, false, cond}
-use native.Mathlib.Omega.{arith}
-use lib.Dec.{eqb}
-use lib.ListN.{length}
-use borrow.Author.Tests.{eq-eqb, ne-eqb, eqb-true}
+use mathlib.Core.Path.{_≡_, sym, _∙_}
+use mathlib.Core.Bool.{Bool}
+use borrow.Author.Tests.{eq-eqb, ne-eqb}
 use Rattle.memory.specs.World.{World, Sized}
 use Rattle.memory.specs.Access.{Outcome, Does}
-use Rattle.editions.specs.Editions.{isEdition, editionOf}
+use Rattle.editions.specs.Editions.{editionOf}
 use Rattle.editions.specs.declared.Edition.{Edition}
 use Rattle.processor.specs.declared.Processor.{Processor}
 use Rattle.instructions.specs.Step.{commitOf, branchOf}
 use Rattle.instructions.specs.declared.Stores.{Stores}
 use Rattle.engine.specs.Entry.{ran, accepted, refusalOf, runOf, runAnswer}
+use Rattle.engine.specs.Accepted as accepted
 use Rattle.engine.specs.declared.Ran.{Ran}
 
 -- Where nothing is refused, the lengths are right.
 pub sized : (number : ℕ) (w : World) {r : ℕ} → r ≡ 0 → r ≡ refusalOf number w → Sized w
-unfolding refusalOf
-sized number w z e =
-    go (isEdition number) (eqb (length (w .memory)) 65536) (eqb (length (w .reads)) 8192) (eqb (length (w .writes)) 8192)
-    refl refl refl (sym e ∙ z)
-  where
-    go : (e a b c : Bool) → eqb (length (w .memory)) 65536 ≡ a → eqb (length (w .reads)) 8192 ≡ b → eqb (length (w .writes)) 8192 ≡ c
-        → _≡_ {A = ℕ} (cond e (cond a (cond b (cond c 0 2) 2) 1) 9) 0 → Sized w
-    go true true true true m r s z = record { memory = eqb-true _ _ m; reads = eqb-true _ _ r; writes = eqb-true _ _ s }
-    go true true true false m r s z = absurd (omega (arith, z))
-    go true true false c m r s z = absurd (omega (arith, z))
-    go true false b c m r s z = absurd (omega (arith, z))
-    go false a b c m r s z = absurd (omega (arith, z))
+sized number w z e = accepted.sized number w (sym e ∙ z)
 
 module _ (number budget : ℕ) (cpu : Processor) (w : World) {r : ℕ} (e : r ≡ refusalOf number w) where
   pub refuses : {a : Ran} → (r ≡ 0 → ⊥) → a ≡ ran r cpu 0 0 → record { result = a; left = w } ≡ runAnswer number budget cpu w

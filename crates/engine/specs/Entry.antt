@@ -6,6 +6,7 @@ use lib.ListN.{length}
 use Rattle.memory.specs.World.{World}
 use Rattle.memory.specs.Access.{Access, then, Outcome, perform}
 use Rattle.memory.specs.Access.Access.{done}
+use Rattle.waking.specs.States.{numberOf, isAwake}
 use Rattle.editions.specs.Editions.{isEdition, editionOf}
 use Rattle.editions.specs.declared.Edition.{Edition}
 use Rattle.processor.specs.declared.Processor.{Processor}
@@ -21,9 +22,13 @@ ran refusal cpu steps stop = record { refusal = refusal; cpu = cpu; steps = step
 abbrev pub refused : ℕ → Processor → World → Outcome World Ran
 refused refusal cpu w = record { result = ran refusal cpu 0 0; left = w }
 
--- Accepted: refusal 0, and what was done.
+-- Accepted: refusal 0, the record and the steps, and as the stop the number of the state that the record is in: 1 where SLEEP, 2 where STOP
+-- has ended its steps, and 0 where it is awake, so that only the budget did.
+abbrev pub answerOf : Progress Processor → Ran
+answerOf p = ran 0 (p .regs) (p .steps) (numberOf (p .regs .state))
+
 abbrev pub accepted : Outcome World (Progress Processor) → Outcome World Ran
-accepted o = record { result = ran 0 (o .result .regs) (o .result .steps) (o .result .stop); left = o .left }
+accepted o = record { result = answerOf (o .result); left = o .left }
 
 -- 9 exactly if the number of the edition is neither 1 nor 2; then 1 exactly if memory is not 65,536 bytes; then 2 exactly if a map is not
 -- 8,192 bytes; else 0.
@@ -39,11 +44,13 @@ refusalOf number w =
 abbrev pub answered : ℕ → Processor → World → Outcome World (Progress Processor) → Outcome World Ran
 answered number cpu w o = cond (eqb (refusalOf number w) 0) (accepted o) (refused (refusalOf number w) cpu w)
 
--- One step in an edition, counted: SLEEP and STOP count, too.
+-- One step in an edition, counted, of a record that is awake: SLEEP and STOP count, too. A record that is not takes none, and nothing changes.
 unfoldable pub countedStep : Edition → Processor → Access (Progress Processor)
-countedStep edition cpu = then (stepOf edition cpu) (λ s. done (progress (s .cpu) 1 (s .stop)))
+countedStep edition cpu =
+    cond (isAwake (cpu .state)) (then (stepOf edition cpu) (λ next. done (progress next 1))) (done (progress cpu 0))
 
--- A run of such steps, all in one edition: its stop is 1 or 2 where SLEEP or STOP was the last of them, and 0 where the budget ended it.
+-- A run, all in one edition: as many of these as the budget has, one after the other. So it takes steps until the budget is spent or SLEEP or
+-- STOP was executed, and none if the record is not awake to begin with.
 abbrev pub runOf : Edition → ℕ → Processor → World → Outcome World (Progress Processor)
 runOf edition = run (taken (countedStep edition))
 

@@ -1,6 +1,7 @@
 pub mod Entry
+pub mod Accepted
 pub mod Theorems
 pub mod Provenance
 pub mod Inside
-pub mod Stops
+pub mod Rest
 pub mod Editions

@@ -22,7 +22,7 @@ use Rattle.runs.specs.Same.{Same}
 use Rattle.runs.proofs.Trace.{run-unmapped}
 use Rattle.runs.proofs.Exact.{Fresh, fresh, reads-exact, writes-exact}
 use Rattle.runs.proofs.Agree.{same-through, same-run}
-use Rattle.engine.specs.Entry.{ran, accepted, refusalOf, countedStep, runOf, runAnswer}
+use Rattle.engine.specs.Entry.{answerOf, accepted, refusalOf, countedStep, runOf, runAnswer}
 use Rattle.engine.specs.Theorems.{run-keeps}
 use Rattle.engine.specs.declared.Ran.{Ran}
 
@@ -44,7 +44,7 @@ accesses edition budget cpu image = trace (countedStep edition) budget cpu (worl
 
 same-accepted : {image second : List ℕ} {o q : Outcome World (Progress Processor)} → Same image second o q
     → Same image second (accepted o) (accepted q)
-same-accepted = same-through (λ (p : Progress Processor). ran 0 (p .regs) (p .steps) (p .stop))
+same-accepted = same-through answerOf
 
 -- Of one edition, whichever it is; of one budget and one record.
 module _ (edition : Edition) (budget : ℕ) (cpu : Processor) where

@@ -1,33 +1,50 @@
 -- What holds of every step and of every run.
 -- Assumes nothing.
-use Prim.Native.Nat.{ℕ, _≤_, _<_}
+use Prim.Native.Nat.{ℕ, _+_, _≤_, _<_}
+use mathlib.Core.Bool.{Bool, true, false}
 use mathlib.Core.Path.{_≡_, ap, sym}
 use Rattle.memory.specs.World.{World, Sized}
 use Rattle.memory.specs.Access.{perform}
 use Rattle.memory.specs.Theorems.{Kept, marks-stay, kept-itself, kept-trans}
 use Rattle.memory.proofs.Laws.{perform-then}
+use Rattle.waking.specs.States.{isAwake}
 use Rattle.editions.specs.Editions.{editionOf}
 use Rattle.editions.specs.declared.Edition.{Edition}
 use Rattle.processor.specs.declared.Processor.{Processor}
 use Rattle.instructions.specs.Order.{ReadsFirst, afterOpcode}
 use Rattle.instructions.proofs.Order as order
+use Rattle.runs.specs.Run.{rested, joined}
 use Rattle.runs.specs.Trace.{taken}
 use Rattle.runs.proofs.Run as runs
 use Rattle.engine.specs.Entry.{answered, countedStep, runOf, stepAnswer, runAnswer}
 
+abbrev awake : Processor → Bool
+awake cpu = isAwake (cpu .state)
+
 -- In either edition.
 module _ (edition : Edition) where
-  -- An accepted step answers that one step was taken.
-  pub one-step : (cpu : Processor) (w : World) → perform (countedStep edition cpu) w .result .steps ≡ 1
+  -- A record that is awake takes one step,
+  pub one-step : (cpu : Processor) (w : World) → isAwake (cpu .state) ≡ true → perform (countedStep edition cpu) w .result .steps ≡ 1
   unfolding countedStep perform
-  one-step cpu w = rw perform-then
+  one-step cpu w e = rw (e, perform-then)
 
-  -- A run takes no more steps than its budget, and all of it where it answers stop 0.
+  -- and one that is not takes none, and nothing changes.
+  pub no-step : (cpu : Processor) (w : World) → isAwake (cpu .state) ≡ false → perform (countedStep edition cpu) w ≡ rested cpu w
+  unfolding countedStep perform
+  no-step cpu w e = rw e
+
+  -- A run takes no more steps than its budget, and all of it where it leaves the record awake.
   pub within-budget : (budget : ℕ) (cpu : Processor) (w : World) → runOf edition budget cpu w .result .steps ≤ budget
-  within-budget = runs.within-budget (taken (countedStep edition)) one-step
+  within-budget = runs.within-budget (taken (countedStep edition)) awake one-step no-step
 
-  pub budget-spent : (budget : ℕ) (cpu : Processor) (w : World) → runOf edition budget cpu w .result .stop ≡ 0 → runOf edition budget cpu w .result .steps ≡ budget
-  budget-spent = runs.budget-spent (taken (countedStep edition)) one-step
+  pub budget-spent : (budget : ℕ) (cpu : Processor) (w : World) → isAwake (runOf edition budget cpu w .result .regs .state) ≡ true
+      → runOf edition budget cpu w .result .steps ≡ budget
+  budget-spent = runs.budget-spent (taken (countedStep edition)) awake one-step no-step
+
+  -- A run of m, and then one of n from what it left, is a run of m + n: the same record, memory and maps, and the steps of both.
+  pub in-parts : (m n : ℕ) (cpu : Processor) (w : World)
+      → let o = runOf edition m cpu w in runOf edition (m + n) cpu w ≡ joined o (runOf edition n (o .result .regs) (o .left))
+  in-parts = runs.in-parts (taken (countedStep edition))
 
   -- A step leaves memory and maps their lengths, and clears no mark; so does a run.
   pub step-keeps : (cpu : Processor) (w : World) → Sized w → Kept w (perform (countedStep edition cpu) w .left)

@@ -45,7 +45,7 @@ fn refusal_of(edition: u8, memory: &[u8], reads: &[u8], writes: &[u8]) -> u8
     0
 }
 
-// Steps until the budget is spent or one of them stops, on memory and maps whose lengths are known.
+// Steps while budget is left and the record is awake, on memory and maps whose lengths are known.
 fn take_steps(
     cpu: Processor,
     edition: Edition,
@@ -59,24 +59,23 @@ fn take_steps(
 {
     let mut next = cpu;
     let mut left: u32 = budget;
-    let mut stop: u8 = 0;
-    while left > 0 && stop == 0 {
-        let stepped = phases::instruction(next, edition, memory, reads, writes);
-        next = stepped.cpu;
-        stop = stepped.stop;
+    while left > 0 && next.is_awake() {
+        next = phases::instruction(next, edition, memory, reads, writes);
         left = left - 1;
     }
     let steps = budget - left;
+    let state = next.state;
     Ran {
         refusal: 0,
         cpu: next,
         steps,
-        stop,
+        stop: waking::number_of(state),
     }
 }
 
 // A run in one edition, given by its number: as many steps as the budget has (stop 0), or fewer where SLEEP (stop 1) or STOP (stop 2) ends
-// it. Refusals: 9 the edition is neither 1 nor 2, 1 memory is not 65,536 bytes, 2 a map is not 8,192 bytes.
+// it. A record that one of the two has put to rest takes no step until it is woken, and gives that stop again. Refusals: 9 the edition is
+// neither 1 nor 2, 1 memory is not 65,536 bytes, 2 a map is not 8,192 bytes.
 pub fn run(
     cpu: Processor,
     edition: u8,

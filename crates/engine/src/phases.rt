@@ -5,7 +5,6 @@ ghost use Rattle.instructions.specs.Step.{beginOf, commitOf, branchOf, finishOf
 use editions::Edition;
 use instructions::Begun;
 use instructions::Effect;
-use instructions::Stepped;
 use instructions::Stores;
 use processor::Processor;
 
@@ -81,18 +80,14 @@ fn branch(cpu: Processor, memory: &[u8], reads: &mut [u8], writes: &[u8], taken:
 }
 
 // The stores, and then the displacement.
-fn finish(made: Effect, memory: &mut [u8], reads: &mut [u8], writes: &mut [u8]) -> Stepped
+fn finish(made: Effect, memory: &mut [u8], reads: &mut [u8], writes: &mut [u8]) -> Processor
     requires { ⌜ Ready memory reads writes ⌝ }
     ensures { λ r. ⌜ Performs (finishOf made) memory reads writes r ⌝ }
 {
     let cpu = made.cpu;
     let stores = made.stores;
     let stored = commit(cpu, memory, reads, writes, stores);
-    let next = branch(stored, memory, reads, writes, made.taken);
-    Stepped {
-        cpu: next,
-        stop: made.stop,
-    }
+    branch(stored, memory, reads, writes, made.taken)
 }
 
 // A whole instruction.
@@ -102,7 +97,7 @@ pub fn instruction(
     memory: &mut [u8],
     reads: &mut [u8],
     writes: &mut [u8],
-) -> Stepped
+) -> Processor
     requires { ⌜ Ready memory reads writes ⌝ }
     ensures { λ r. ⌜ Performs (stepOf edition cpu) memory reads writes r ⌝ }
 {

@@ -2,8 +2,8 @@
 -- stood at unmarked addresses, and the number tells how many these are.
 -- Assumes nothing.
 use Prim.Native.Nat.{ℕ, _/_, _%_, _^_, _<_}
-use mathlib.Core.Bool.{not}
-use mathlib.Core.Path.{_≡_, ap}
+use mathlib.Core.Bool.{Bool, true, false, not}
+use mathlib.Core.Path.{_≡_, refl, ap}
 use mathlib.Core.List.{List}
 use native.Mathlib.Decide.{ℕ-discrete}
 use native.Mathlib.Omega.{arith}
@@ -14,7 +14,7 @@ use Rattle.marks.specs.HowMany.{at-most}
 use Rattle.memory.specs.World.{World, world}
 use Rattle.memory.specs.Access.{Outcome}
 use Rattle.memory.specs.Theorems.{Keeps}
-use Rattle.state.specs.Registers.{registersOf, bytesOf}
+use Rattle.state.specs.Registers.{wholeBytesOf, isWhole, wholeOf}
 use Rattle.runs.specs.Same.{Same}
 use Rattle.runs.proofs.Agree.{same-through}
 use Rattle.engine.specs.Entry.{refusalOf}
@@ -46,7 +46,7 @@ abbrev handed : List ℕ → List ℕ → Outcome World Ran → Outcome World An
 handed registers image o = outcomeOf (handedBack registers (world image clear clear) o)
 
 abbrev accepted : Ran → Answer
-accepted r = record { number = packed 0 (r .stop) (r .steps); registers = bytesOf (r .cpu) }
+accepted r = record { number = packed 0 (r .stop) (r .steps); registers = wholeBytesOf (r .cpu) }
 
 -- What the engine answered alike, refused or not, is handed back alike.
 handed-alike : (registers image second : List ℕ) (o q : Outcome World Ran) → Same image second o q
@@ -62,8 +62,8 @@ handed-alike registers image second o q s = go (ℕ-discrete (o .result .refusal
 -- Whatever the numbers are, and whatever is lent.
 module _ (edition budget : ℕ) (registers image map : List ℕ) (byte : ℕ) where
   -- the engine's own maps are handed back, refused or not
-  its-marks : Keeps (handed registers image (answerTo edition budget (registersOf registers) image) .left .reads) map
-      → Keeps (answerTo edition budget (registersOf registers) image .left .reads) map
+  its-marks : Keeps (handed registers image (answerTo edition budget (wholeOf registers) image) .left .reads) map
+      → Keeps (answerTo edition budget (wholeOf registers) image .left .reads) map
   its-marks more =
       elim (ℕ-discrete (refusalOf edition (world image clear clear)) 0) [
         | yes z ↦ rw (eq-eqb _ _ z) (rw (eq-eqb _ _ z) at more)
@@ -77,14 +77,17 @@ module _ (edition budget : ℕ) (registers image map : List ℕ) (byte : ℕ) wh
       → Same image (blankCall map byte image .left)
       (outcomeOf (playedCall edition budget registers image))
       (outcomeOf (playedCall edition budget registers (blankCall map byte image .left)))
-  same-run-called more =
-      elim (ℕ-discrete (length registers) 7) [
-        | no other ↦ rw (ne-eqb _ _ other) (both-refused image (blankCall map byte image .left) _)
-        | yes seven ↦
-            rw (eq-eqb _ _ seven)
-            (handed-alike registers image (blankCall map byte image .left) _ _
-            (same-answer edition budget (registersOf registers) image map byte (its-marks (rw (eq-eqb _ _ seven) at more))))
-      ]
+  same-run-called more = go (isWhole registers) refl
+    where
+      go : (b : Bool) → isWhole registers ≡ b
+          → Same image (blankCall map byte image .left)
+          (outcomeOf (playedCall edition budget registers image))
+          (outcomeOf (playedCall edition budget registers (blankCall map byte image .left)))
+      go false other = rw other (both-refused image (blankCall map byte image .left) _)
+      go true whole =
+          rw whole
+          (handed-alike registers image (blankCall map byte image .left) _ _
+          (same-answer edition budget (wholeOf registers) image map byte (its-marks (rw whole at more))))
 
 -- ---- what the call answers and leaves
 

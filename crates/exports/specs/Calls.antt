@@ -15,8 +15,9 @@ use Rattle.memory.specs.Access.{Outcome, outcome}
 use Rattle.laws.specs.Lent.{Lent}
 use Rattle.laws.specs.Filled.{Filled, filled}
 use Rattle.memory.specs.Contracts.{before, after}
+use Rattle.processor.specs.Record.{woken}
 use Rattle.processor.specs.declared.Processor.{Processor}
-use Rattle.state.specs.Registers.{registersOf, bytesOf}
+use Rattle.state.specs.Registers.{wholeBytesOf, isWhole, wholeOf}
 use Rattle.spc_file.specs.Calls.{unlessRefused, readOf, writeOf}
 use Rattle.spc_file.specs.declared.FileRead.{FileRead}
 use Rattle.conversion.specs.Calls.{fileFromRecord, recordFromFile}
@@ -44,7 +45,7 @@ called answer registers left = record { answer = answer; registers = registers; 
 abbrev pub handedBack : List ℕ → World → Outcome World Ran → Called
 handedBack registers w o =
     cond (eqb (o .result .refusal) 0)
-    (called (packed 0 (o .result .stop) (o .result .steps)) (bytesOf (o .result .cpu)) (o .left))
+    (called (packed 0 (o .result .stop) (o .result .steps)) (wholeBytesOf (o .result .cpu)) (o .left))
     (called (packed (o .result .refusal) 0 0) registers w)
 
 -- The engine's answer was handed back into bytes that held one list before and another after it, with the number r: right for whatever
@@ -56,11 +57,11 @@ pub record Handed (ran : Ran) (before after : List ℕ) (r : ℕ) : Type 0 where
 abbrev pub HandsBack : Ran → Lent → ℕ → Type 0
 HandsBack ran registers r = Handed ran (now (registers .entry)) (now (registers .exit)) r
 
--- Refusal 6 exactly if the registers are not seven bytes, before all others.
+-- Refusal 6 exactly if the registers are not a whole record, eight bytes of which the last is 0, 1 or 2, before all others.
 abbrev pub onBytes : (Processor → World → Outcome World Ran) → List ℕ → World → Called
 onBytes answer registers w =
-    cond (eqb (length registers) 7)
-    (handedBack registers w (answer (registersOf registers) w))
+    cond (isWhole registers)
+    (handedBack registers w (answer (wholeOf registers) w))
     (called (packed 6 0 0) registers w)
 
 -- what the engine's step and run answer to the number of an edition, at the bytes
@@ -69,6 +70,10 @@ stepCall edition = onBytes (stepAnswer edition)
 
 abbrev pub runCall : ℕ → ℕ → List ℕ → World → Called
 runCall edition budget = onBytes (runAnswer edition budget)
+
+-- A wake, at the bytes: refused with 6 as above, and else the record awake.
+abbrev pub wakeCall : List ℕ → Filled ℕ
+wakeCall registers = cond (isWhole registers) (filled 0 (wholeBytesOf (woken (wholeOf registers)))) (filled (packed 6 0 0) registers)
 
 -- What a call promises: it answers and leaves what `call` makes of the registers' bytes, memory and maps.
 abbrev pub CallYields : (List ℕ → World → Called) → Lent → Lent → Lent → Lent → ℕ → Type 0
@@ -113,18 +118,18 @@ blankedNumber b = packed (b .refusal) 0 (b .blanked)
 abbrev pub blankCall : List ℕ → ℕ → List ℕ → Filled ℕ
 blankCall map byte memory = numberedBy blankedNumber (blankOf map byte memory)
 
--- The record of an SPC file, into seven bytes, in the order that all calls have.
+-- The record of an SPC file, into eight bytes, in the order that all calls have. What they held does not matter.
 abbrev pub recordInto : FileRead → List ℕ → Filled ℕ
-recordInto f = intoRow 7 (f .refusal) (bytesOf (f .cpu))
+recordInto f = intoRow 8 (f .refusal) (wholeBytesOf (f .cpu))
 
 abbrev pub fileReadCall : List ℕ → List ℕ → Filled ℕ
 fileReadCall file = recordInto (readOf file)
 
--- Record and memory into an SPC file: 6 exactly if the registers are not seven bytes, before all others; else what the write answers and
+-- Record and memory into an SPC file: 6 exactly if the registers are not a whole record, before all others; else what the write answers and
 -- leaves.
 abbrev pub fileWriteCall : List ℕ → List ℕ → List ℕ → Filled ℕ
 fileWriteCall registers memory file =
-    cond (eqb (length registers) 7) (numbered (writeOf (registersOf registers) memory file)) (filled (packed 6 0 0) file)
+    cond (isWhole registers) (numbered (writeOf (wholeOf registers) memory file)) (filled (packed 6 0 0) file)
 
 -- A state record into an SPC file, and back: the refusal of each way is its number.
 abbrev pub fileFromRecordCall : List ℕ → List ℕ → Filled ℕ

@@ -3,3 +3,4 @@ pub mod Parts
 pub mod Files
 pub mod Compared
 pub mod Blanked
+pub mod Rest

@@ -1,11 +1,11 @@
-// The library that other programs link: C's view of the engine, the count of marks, the differences between two memories, blanked images,
+// The library that other programs link: C's view of the engine and of a wake, the count of marks, the differences between two memories, blanked images,
 // the listing, SPC files and state records, which include/spc700.h documents. Every call takes its slices as pointer and length, has no
 // condition, and answers one number.
 ghost use mathlib.Core.Path.{_≡_};
 ghost use lib.ListN.{length};
 ghost use Rattle.listing.specs.Instruction.{listedOf};
 ghost use Rattle.laws.specs.Filled.{Fills};
-ghost use Rattle.exports.specs.Calls.{packed, HandsBack, stepCall, runCall, CallYields, TextYields};
+ghost use Rattle.exports.specs.Calls.{packed, HandsBack, stepCall, runCall, wakeCall, CallYields, TextYields};
 ghost use Rattle.exports.specs.Calls.{countsCall, differencesCall, blankCall};
 ghost use Rattle.exports.specs.Calls.{fileReadCall, fileWriteCall, fileFromRecordCall, recordFromFileCall};
 use engine::Ran;
@@ -17,10 +17,10 @@ fn packed(refusal: u8, stop: u8, number: u32) -> u64
     refusal as u64 * 0x100_0000_0000 + stop as u64 * 0x1_0000_0000 + number as u64
 }
 
-// Hands back what the engine answered: the number, and, unless the engine refused, the record in its seven bytes. Memory and maps are not
+// Hands back what the engine answered: the number, and, unless the engine refused, the record in its eight bytes. Memory and maps are not
 // lent to it, so its contract holds whatever they are.
 fn hand_back(registers: &mut [u8], ran: Ran) -> u64
-    requires { ⌜ length (now registers) ≡ 7 ⌝ }
+    requires { ⌜ length (now registers) ≡ 8 ⌝ }
     ensures { λ r. ⌜ HandsBack ran registers r ⌝ }
 {
     let refusal = ran.refusal;
@@ -28,12 +28,12 @@ fn hand_back(registers: &mut [u8], ran: Ran) -> u64
         return packed(refusal, 0, 0);
     }
     let cpu = ran.cpu;
-    state::set_registers(registers, cpu);
+    state::set_whole(registers, cpu);
     packed(0, ran.stop, ran.steps)
 }
 
-// One step in an edition, which is a number. Refusals: 6 registers that are not seven bytes, 9 an edition that is neither 1 nor 2, 1 memory
-// that is not 65,536 bytes, 2 a map that is not 8,192 bytes.
+// One step in an edition, which is a number, or none of a record that is not awake. Refusals: 6 registers that are not eight bytes with 0, 1
+// or 2 as the last, 9 an edition that is neither 1 nor 2, 1 memory that is not 65,536 bytes, 2 a map that is not 8,192 bytes.
 #[no_mangle]
 pub extern "C" fn spc700_step(
     registers: &mut [u8],
@@ -44,15 +44,15 @@ pub extern "C" fn spc700_step(
 ) -> u64
     ensures { λ r. ⌜ CallYields (stepCall edition) registers memory reads writes r ⌝ }
 {
-    if registers.len() != 7 {
+    if !state::is_whole(registers) {
         return packed(6, 0, 0);
     }
-    let cpu = state::registers(registers);
+    let cpu = state::whole(registers);
     let ran = engine::step(cpu, edition, memory, reads, writes);
     hand_back(registers, ran)
 }
 
-// A run of at most `budget` steps. Refusals as for a step.
+// A run of at most `budget` steps, or of none where the record is not awake. Refusals as for a step.
 #[no_mangle]
 pub extern "C" fn spc700_run(
     registers: &mut [u8],
@@ -64,12 +64,25 @@ pub extern "C" fn spc700_run(
 ) -> u64
     ensures { λ r. ⌜ CallYields (runCall edition budget) registers memory reads writes r ⌝ }
 {
-    if registers.len() != 7 {
+    if !state::is_whole(registers) {
         return packed(6, 0, 0);
     }
-    let cpu = state::registers(registers);
+    let cpu = state::whole(registers);
     let ran = engine::run(cpu, edition, memory, reads, writes, budget);
     hand_back(registers, ran)
+}
+
+// Sets the record awake, and changes nothing else. Refusal: 6 as for a step.
+#[no_mangle]
+pub extern "C" fn spc700_wake(registers: &mut [u8]) -> u64
+    ensures { λ r. ⌜ Fills wakeCall registers r ⌝ }
+{
+    if !state::is_whole(registers) {
+        return packed(6, 0, 0);
+    }
+    let cpu = state::whole(registers);
+    state::set_whole(registers, cpu.wake());
+    packed(0, 0, 0)
 }
 
 // How many addresses two maps mark as read only, as stored to only, and as both: three numbers. Refusals: 6 a row that is not three numbers
@@ -128,13 +141,13 @@ pub extern "C" fn spc700_text(code: &[u8], text: &mut [u8]) -> u64
     packed(written.refusal, 0, written.length as u32)
 }
 
-// The record of an SPC file. Refusals: 6 registers that are not seven bytes, 7 a file that is not 66,048 bytes, 8 a file that begins
-// otherwise.
+// The record of an SPC file, awake. Refusals: 6 registers that are not eight bytes, whatever they hold, 7 a file that is not 66,048 bytes,
+// 8 a file that begins otherwise.
 #[no_mangle]
 pub extern "C" fn spc700_file_read(file: &[u8], registers: &mut [u8]) -> u64
     ensures { λ r. ⌜ Fills (fileReadCall (now (file .entry))) registers r ⌝ }
 {
-    if registers.len() != 7 {
+    if registers.len() != 8 {
         return packed(6, 0, 0);
     }
     let read = spc_file::read(file);
@@ -142,19 +155,20 @@ pub extern "C" fn spc700_file_read(file: &[u8], registers: &mut [u8]) -> u64
         return packed(read.refusal, 0, 0);
     }
     let cpu = read.cpu;
-    state::set_registers(registers, cpu);
+    state::set_whole(registers, cpu);
     packed(0, 0, 0)
 }
 
-// Record and memory into an SPC file. Refusals: 6, 7 and 8 as above, then 1 memory that is not 65,536 bytes.
+// Record and memory into an SPC file. Refusals: 6 as for a step, 7 and 8 as above, then 1 memory that is not 65,536 bytes, then 12 a record
+// that is not awake.
 #[no_mangle]
 pub extern "C" fn spc700_file_write(file: &mut [u8], registers: &[u8], memory: &[u8]) -> u64
     ensures { λ r. ⌜ Fills (fileWriteCall (now (registers .entry)) (now (memory .entry))) file r ⌝ }
 {
-    if registers.len() != 7 {
+    if !state::is_whole(registers) {
         return packed(6, 0, 0);
     }
-    let cpu = state::registers(registers);
+    let cpu = state::whole(registers);
     packed(spc_file::write(file, cpu, memory), 0, 0)
 }
 

@@ -14,7 +14,6 @@ use Rattle.instructions.specs.Step.{commitOf, branchOf, readFor, beginOf
 use Rattle.instructions.specs.Inside.{Fits}
 use Rattle.instructions.specs.declared.Begun.{Begun}
 use Rattle.instructions.specs.declared.Effect.{Effect}
-use Rattle.instructions.specs.declared.Stepped.{Stepped}
 use Rattle.instructions.specs.declared.Stores.{Stores}
 use Rattle.instructions.specs.declared.Stores.the-variants.{Nothing, Byte, Word, Push, Call, Break}
 use Rattle.instructions.proofs.Within.{Within, follow}
@@ -59,10 +58,9 @@ unfolding branchOf branched
 displaced true cpu c = follow (fetched c) (λ f b. ends (goes-to (b .cpu) (in-16-bits (ltb (f .byte) 128) _ _)))
 displaced false cpu c = ends c
 
-finished : (e : Effect) → Ready e → Within (λ (s : Stepped). Fits (s .cpu)) (finishOf e)
+finished : (e : Effect) → Ready e → Within Fits (finishOf e)
 unfolding finishOf
-finished e r =
-    follow (committed (e .stores) (e .cpu) (r .1) (fits (e .cpu) (r .0))) (λ c f. follow (displaced (e .taken) c f) (λ d h. ends h))
+finished e r = follow (committed (e .stores) (e .cpu) (r .1) (fits (e .cpu) (r .0))) (displaced (e .taken))
 
 -- ---- the whole step
 
@@ -77,6 +75,6 @@ module _ (edition : Edition) where
       follow (fetched c)
       (λ opcode f. follow (gathered edition (rowOf (opcode .byte) .mode) (opcode .byte) (f .cpu)) (λ o g. ends (record { opcode = f .byte; operands = g })))
 
-  pub step-within : (cpu : Processor) → Fits cpu → Within (λ (s : Stepped). Fits (s .cpu)) (stepOf edition cpu)
+  pub step-within : (cpu : Processor) → Fits cpu → Within Fits (stepOf edition cpu)
   unfolding stepOf
   step-within cpu c = follow (begun c) (λ b r. finished _ (made (b .opcode) (r .opcode) (r .operands) (rowOf (b .opcode) .operation)))

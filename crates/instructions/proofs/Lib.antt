@@ -6,3 +6,4 @@ pub mod Made
 pub mod Inside
 pub mod Order
 pub mod Same
+pub mod States

@@ -4,6 +4,7 @@ use Prim.Native.Nat.{ℕ}
 use mathlib.Core.Path.{_≡_, refl}
 use mathlib.Core.List.{List, [], _∷_}
 use Rattle.signed.specs.Displacement.{targetOf}
+use Rattle.waking.specs.declared.State.the-variants.{Awake}
 use Rattle.psw.specs.Status.{byteOf, flagsOf}
 use Rattle.processor.specs.Record.{wordOf}
 use Rattle.processor.specs.Sums.{leaves, adcOf, sbcOf}
@@ -29,9 +30,9 @@ abbrev pub All : List Claim → Type 0
 All [] = Unit
 All ((a is b) ∷ cs) = (a ≡ b) × All cs
 
--- a record with these in A, X, Y, SP and the status byte
+-- a record with these in A, X, Y, SP and the status byte, awake
 abbrev pub cpu : ℕ → ℕ → ℕ → ℕ → ℕ → Processor
-cpu a x y sp status = record { a = a; x = x; y = y; sp = sp; pc = 0; psw = flagsOf status }
+cpu a x y sp status = record { a = a; x = x; y = y; sp = sp; pc = 0; psw = flagsOf status; state = Awake }
 
 -- registers and status byte as one list: A Y PSW; a produced byte and PSW
 abbrev pub shown : Processor → List ℕ

@@ -5,3 +5,4 @@ pub mod Step
 pub mod Cases
 pub mod Order
 pub mod Inside
+pub mod States

@@ -18,7 +18,6 @@ use Rattle.instructions.specs.Rows.{rows}
 use Rattle.instructions.specs.Effects.{effectOf}
 use Rattle.instructions.specs.Step.{commitOf, branchOf, readFor, beginOf, madeOf, finishOf, stepOf}
 use Rattle.instructions.specs.declared.Operands.{Operands}
-use Rattle.instructions.specs.declared.Stepped.{Stepped}
 
 -- nothing is read
 abbrev pub OnlyStores : {R : Type 0} → Access R → Type 0
@@ -33,7 +32,7 @@ ReadsFirst (readAt a p) = (byte : ℕ) → ReadsFirst (p byte)
 ReadsFirst (storeAt a byte p) = OnlyStores p
 
 -- what follows the opcode in a step
-abbrev pub afterOpcode : Edition → Processor → ℕ → Access Stepped
+abbrev pub afterOpcode : Edition → Processor → ℕ → Access Processor
 afterOpcode edition cpu opcode = then (readFor edition (produced (onward cpu) opcode)) (λ b. finishOf (madeOf b))
 
 -- A step reads the opcode at PC, and then it does what follows.
@@ -45,6 +44,6 @@ opcode-first edition cpu = refl
 pub dbnz-stores-first : (o : Operands) → eqb (minus (o .low) 1) 0 ≡ false
     → finishOf (madeOf (record { opcode = 0x6E; operands = o }))
     ≡ storeAt (o .at) (minus (o .low) 1)
-    (readAt (o .cpu .pc) (λ byte. done (record { cpu = withPc (targetOf (nextOf (o .cpu .pc)) byte) (onward (o .cpu)); stop = 0 })))
+    (readAt (o .cpu .pc) (λ byte. done (withPc (targetOf (nextOf (o .cpu .pc)) byte) (onward (o .cpu)))))
 unfolding rows effectOf finishOf commitOf branchOf branched fetch then
 dbnz-stores-first o e = rw e

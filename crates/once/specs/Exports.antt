@@ -12,6 +12,9 @@ spc700-step-once = record { same = calls }
 pub spc700-run-once : One exports.spc700_run.Reads.Post (λ κ e. first e ∷ fourth e ∷ fifth e ∷ sixth e ∷ [])
 spc700-run-once = record { same = calls }
 
+pub spc700-wake-once : One exports.spc700_wake.Reads.Post (λ κ. first)
+spc700-wake-once = record { same = fills }
+
 pub spc700-counts-once : One exports.spc700_counts.Reads.Post (λ κ. third)
 spc700-counts-once = record { same = fills }
 

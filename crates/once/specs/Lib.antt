@@ -2,6 +2,7 @@ pub mod Law
 pub mod Forms
 pub mod Text
 pub mod Signed
+pub mod Waking
 pub mod Psw
 pub mod Opcodes
 pub mod Processor

@@ -132,3 +132,12 @@ incw-once = record { same = answers }
 
 pub decw-once : Answers cpu.decw.Reads.Post
 decw-once = record { same = answers }
+
+pub is-awake-once : Answers cpu.is_awake.Reads.Post
+is-awake-once = record { same = answers }
+
+pub with-state-once : Answers cpu.with_state.Reads.Post
+with-state-once = record { same = answers }
+
+pub wake-once : Answers cpu.wake.Reads.Post
+wake-once = record { same = answers }

@@ -1,4 +1,4 @@
--- Each function between the register record and its seven bytes has one outcome.
+-- Each function between the register record and its bytes, seven or eight, has one outcome.
 -- Assumes nothing.
 use Rattle.state.proofs as state
 use Rattle.once.specs.Law.{One, Answers, first}
@@ -9,3 +9,12 @@ registers-once = record { same = answers }
 
 pub set-registers-once : One state.set_registers.Reads.Post (λ κ. first)
 set-registers-once = record { same = leaves }
+
+pub is-whole-once : Answers state.is_whole.Reads.Post
+is-whole-once = record { same = answers }
+
+pub whole-once : Answers state.whole.Reads.Post
+whole-once = record { same = answers }
+
+pub set-whole-once : One state.set_whole.Reads.Post (λ κ. first)
+set-whole-once = record { same = leaves }

@@ -7,8 +7,8 @@ use Rattle.processor.specs.declared.Processor.{Processor}
 use Rattle.processor.specs.declared.Produced.{Produced}
 
 pub same-processor : {p q : Processor}
-    → p .a ≡ q .a → p .x ≡ q .x → p .y ≡ q .y → p .sp ≡ q .sp → p .pc ≡ q .pc → p .psw ≡ q .psw → p ≡ q
-same-processor a x y sp pc psw = rw (a, x, y, sp, pc, psw)
+    → p .a ≡ q .a → p .x ≡ q .x → p .y ≡ q .y → p .sp ≡ q .sp → p .pc ≡ q .pc → p .psw ≡ q .psw → p .state ≡ q .state → p ≡ q
+same-processor a x y sp pc psw state = rw (a, x, y, sp, pc, psw, state)
 
 pub same-produced : {p q : Produced} → p .cpu ≡ q .cpu → p .byte ≡ q .byte → p ≡ q
 same-produced cpu byte = rw (cpu, byte)

@@ -7,6 +7,7 @@ use libc::STDIN_FILENO;
 use processor::Processor;
 use psw::ProgramStatusWord;
 use text::Line;
+use waking::State;
 
 fn main() {
     let mut case = [0u8; 16];
@@ -39,7 +40,7 @@ fn status(line: Line, byte: u8) -> Line {
     psw.on_line(line.hex_byte(psw.to_byte()).push(b' '))
 }
 
-// A X Y SP PC-low PC-high PSW, in the bytes 1 to 7.
+// A X Y SP PC-low PC-high PSW, in the bytes 1 to 7; awake.
 fn registers(case: [u8; 16]) -> Processor {
     Processor {
         a: case[1],
@@ -48,5 +49,6 @@ fn registers(case: [u8; 16]) -> Processor {
         sp: case[4],
         pc: processor::word(case[5], case[6]),
         psw: ProgramStatusWord::from_byte(case[7]),
+        state: State::Awake,
     }
 }

@@ -2,6 +2,7 @@
 use processor::Processor;
 use processor::word;
 use psw::ProgramStatusWord;
+use waking::State;
 
 // The byte at a place, and 0 outside.
 pub fn at(bytes: &[u8], i: usize) -> u8 {
@@ -15,7 +16,7 @@ pub fn set(bytes: &mut [u8], i: usize, byte: u8) {
     }
 }
 
-// A X Y SP PC-low PC-high PSW, in the bytes 0 to 6.
+// A X Y SP PC-low PC-high PSW, in the bytes 0 to 6; awake, since the Rust crate's record has no state.
 pub fn registers(given: &[u8]) -> Processor {
     Processor {
         a: at(given, 0),
@@ -24,6 +25,7 @@ pub fn registers(given: &[u8]) -> Processor {
         sp: at(given, 3),
         pc: word(at(given, 4), at(given, 5)),
         psw: ProgramStatusWord::from_byte(at(given, 6)),
+        state: State::Awake,
     }
 }
 

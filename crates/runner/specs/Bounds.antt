@@ -5,6 +5,7 @@ use mathlib.Core.Bool.{Bool, true, false, cond}
 use mathlib.Core.List.{List}
 use native.Mathlib.Omega.{arith}
 use lib.Dec.{eqb}
+use Rattle.waking.specs.Theorems.{at-most-two}
 use Rattle.memory.specs.World.{World, world}
 use Rattle.memory.specs.Access.{Outcome}
 use Rattle.editions.specs.Editions.{numberOf, editionOf}
@@ -14,7 +15,6 @@ use Rattle.engine.specs.Entry.{accepted, refused, refusalOf, runOf}
 use Rattle.engine.specs.Provenance.{clear, played}
 use Rattle.engine.specs.Theorems.{within-budget}
 use Rattle.engine.specs.declared.Ran.{Ran}
-use Rattle.engine.specs.Stops.{run-stop}
 
 pub record Small (budget : ℕ) (o : Outcome World Ran) : Type 0 where
   pub stop : o .result .stop ≤ 2
@@ -30,5 +30,5 @@ small edition budget cpu image = go (eqb (refusalOf (numberOf edition) w) 0) (re
     taken = editionOf (numberOf edition)
 
     go : (b : Bool) (n : ℕ) → Small budget (cond b (accepted (runOf taken budget cpu w)) (refused n cpu w))
-    go true n = record { stop = run-stop taken budget cpu w; steps = within-budget taken budget cpu w }
+    go true n = record { stop = at-most-two (runOf taken budget cpu w .result .regs .state); steps = within-budget taken budget cpu w }
     go false n = record { stop = omega arith; steps = omega arith }

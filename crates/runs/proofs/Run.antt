@@ -1,126 +1,101 @@
--- Runs in parts, one step more as a loop takes it, and what carries over from a step to a run.
+-- Runs in parts, one turn more as a loop takes it, and what carries over from a turn to a run.
 -- Assumes nothing.
 use Prim.Native.Nat.{ℕ, zero, suc, _+_, _-_, _≤_}
-use mathlib.Core.Path.{_≡_, refl, ap, sym, subst, _∙_}
-use mathlib.Core.Logic.{_≢_}
+use mathlib.Core.Path.{_≡_, refl, ap, sym, _∙_}
+use mathlib.Core.Bool.{Bool, true, false, true≢false}
 use native.Mathlib.Nat.{zero-add, suc-add, add-zero, add-assoc}
 use native.Mathlib.Omega.{arith}
 use Rattle.memory.specs.Access.{Outcome}
-use Rattle.runs.specs.Run.{Progress, joined, run}
+use Rattle.runs.specs.Run.{Progress, rested, joined, run}
 
-joined-assoc : {Regs W : Type 0} (i : ℕ) (o p q : Outcome W (Progress Regs)) → joined 0 o (joined i p q) ≡ joined i (joined 0 o p) q
-joined-assoc zero o p q = rw add-assoc
-joined-assoc (suc i) o p q = refl
-
-module _ {Regs W : Type 0} (attempt : Regs → W → Outcome W (Progress Regs)) where
-  -- what was done, and then a run of n unless that stopped
+module _ {Regs W : Type 0} (turn : Regs → W → Outcome W (Progress Regs)) where
+  -- a run of n from what was done
   abbrev pub resumed : ℕ → Outcome W (Progress Regs) → Outcome W (Progress Regs)
-  resumed n o = joined (o .result .stop) o (run attempt n (o .result .regs) (o .left))
+  resumed n o = joined o (run turn n (o .result .regs) (o .left))
 
-  -- A run of m, and then one of n unless the first stopped, is a run of m + n.
-  pub in-parts : (m n : ℕ) (r : Regs) (w : W) → run attempt (m + n) r w ≡ resumed n (run attempt m r w)
+  -- A run of m, and then one of n, is a run of m + n.
+  pub in-parts : (m n : ℕ) (r : Regs) (w : W) → run turn (m + n) r w ≡ resumed n (run turn m r w)
   unfolding run
   in-parts zero n r w = simp zero-add
   in-parts (suc m) n r w =
-      let o = attempt r w in
-      rw suc-add (ap (joined (o .result .stop) o) (in-parts m n (o .result .regs) (o .left)) ∙ go o (run attempt m (o .result .regs) (o .left)) (o .result .stop) refl)
-    where
-      go : (o q : Outcome W (Progress Regs)) (i : ℕ) → o .result .stop ≡ i → joined i o (resumed n q) ≡ resumed n (joined i o q)
-      go o q zero e = joined-assoc (q .result .stop) o q (run attempt n (q .result .regs) (q .left))
-      go o q (suc i) e = rw e
+      let o = turn r w in rw suc-add (ap (joined o) (in-parts m n (o .result .regs) (o .left)) ∙ rw add-assoc)
 
-  -- A run that a step stopped answers the same with a larger budget.
-  pub stopped : (m n : ℕ) (r : Regs) (w : W) → run attempt m r w .result .stop ≢ 0 → run attempt (m + n) r w ≡ run attempt m r w
-  stopped m n r w h = in-parts m n r w ∙ go (run attempt m r w .result .stop) h
-    where
-      go : (i : ℕ) → i ≢ 0 → joined i (run attempt m r w) (run attempt n (run attempt m r w .result .regs) (run attempt m r w .left)) ≡ run attempt m r w
-      go zero h = absurd (h refl)
-      go (suc i) h = refl
-
-  pub stopped-by : (m b : ℕ) (r : Regs) (w : W) (o : Outcome W (Progress Regs)) → m ≤ b → run attempt m r w ≡ o → o .result .stop ≢ 0 → run attempt b r w ≡ o
-  stopped-by m b r w o h e z =
-      let rest : b ≡ m + (b - m) = omega arith in
-      ap (λ (n : ℕ). run attempt n r w) rest ∙ stopped m (b - m) r w (rw e z) ∙ e
-
-  -- A run of budget 1 is one step.
-  pub run-one : (r : Regs) (w : W) → run attempt 1 r w ≡ attempt r w
+  -- A run of budget 1 is one turn.
+  pub run-one : (r : Regs) (w : W) → run turn 1 r w ≡ turn r w
   unfolding run
-  run-one r w = let o = attempt r w in go o (o .result .stop) refl
-    where
-      go : (o : Outcome W (Progress Regs)) (i : ℕ) → o .result .stop ≡ i → joined i o (run attempt 0 (o .result .regs) (o .left)) ≡ o
-      go o zero e = rw add-zero (ap (λ (i : ℕ). record { result = record { regs = o .result .regs; steps = o .result .steps; stop = i }; left = o .left }) (sym e))
-      go o (suc i) e = refl
+  run-one r w = rw add-zero
 
-  -- one step more
+  -- Where a turn does nothing, a run of any budget does nothing.
+  pub run-rests : (r : Regs) (w : W) → turn r w ≡ rested r w → (n : ℕ) → run turn n r w ≡ rested r w
+  unfolding run
+  run-rests r w e zero = refl
+  run-rests r w e (suc n) = rw (e, run-rests r w e n)
+
+  -- one turn more
   pub run-next : (m : ℕ) (r : Regs) (w : W) (o q : Outcome W (Progress Regs))
-      → run attempt m r w ≡ o → o .result .stop ≡ 0 → q ≡ attempt (o .result .regs) (o .left) → run attempt (m + 1) r w ≡ joined 0 o q
-  run-next m r w o q e z f = in-parts m 1 r w ∙ rw (e, z, run-one, f)
+      → run turn m r w ≡ o → q ≡ turn (o .result .regs) (o .left) → run turn (m + 1) r w ≡ joined o q
+  run-next m r w o q e f = in-parts m 1 r w ∙ rw (e, run-one, f)
 
--- What each step keeps, a run keeps.
-module _ {Regs W : Type 0} (attempt : Regs → W → Outcome W (Progress Regs)) (P : W → W → Type 0)
-    (same : (w : W) → P w w) (trans : (u v w : W) → P u v → P v w → P u w) (each : (r : Regs) (w : W) → P w (attempt r w .left)) where
-  joined-keeps : (i : ℕ) (o q : Outcome W (Progress Regs)) → P (o .left) (q .left) → P (o .left) (joined i o q .left)
-  joined-keeps zero o q h = h
-  joined-keeps (suc i) o q h = same (o .left)
+  -- A larger budget changes nothing where a turn from what was done does nothing.
+  pub run-ended : (m b : ℕ) (r : Regs) (w : W) (o : Outcome W (Progress Regs)) → m ≤ b → run turn m r w ≡ o
+      → turn (o .result .regs) (o .left) ≡ rested (o .result .regs) (o .left) → run turn b r w ≡ o
+  run-ended m b r w o h e rests =
+      let rest : b ≡ m + (b - m) = omega arith in
+      ap (λ (n : ℕ). run turn n r w) rest ∙ in-parts m (b - m) r w ∙ rw (e, run-rests _ _ rests (b - m), add-zero)
 
-  pub run-keeps : (n : ℕ) (r : Regs) (w : W) → P w (run attempt n r w .left)
+-- What each turn keeps, a run keeps.
+module _ {Regs W : Type 0} (turn : Regs → W → Outcome W (Progress Regs)) (P : W → W → Type 0)
+    (same : (w : W) → P w w) (trans : (u v w : W) → P u v → P v w → P u w) (each : (r : Regs) (w : W) → P w (turn r w .left)) where
+  pub run-keeps : (n : ℕ) (r : Regs) (w : W) → P w (run turn n r w .left)
   unfolding run
   run-keeps zero r w = same w
-  run-keeps (suc n) r w =
-      let o = attempt r w in
-      trans w (o .left) _ (each r w) (joined-keeps (o .result .stop) o _ (run-keeps n (o .result .regs) (o .left)))
-
-  resumed-keeps : (n : ℕ) (o : Outcome W (Progress Regs)) → P (o .left) (resumed attempt n o .left)
-  resumed-keeps n o =
-      joined-keeps (o .result .stop) o (run attempt n (o .result .regs) (o .left)) (run-keeps n (o .result .regs) (o .left))
+  run-keeps (suc n) r w = let o = turn r w in trans w (o .left) _ (each r w) (run-keeps n (o .result .regs) (o .left))
 
 -- the same result, and alike worlds left
 pub record Agreed {W R : Type 0} (Alike : W → W → Type 0) (o q : Outcome W R) : Type 0 where
   pub result : o .result ≡ q .result
   pub left : Alike (o .left) (q .left)
 
--- Two runs. What holds of two steps from alike worlds, as long as what the first leaves is within bounds, holds of two runs.
-module _ {Regs W : Type 0} (attempt : Regs → W → Outcome W (Progress Regs)) (Within : W → Type 0) (Alike : W → W → Type 0)
-    (back : (r : Regs) (w : W) → Within (attempt r w .left) → Within w)
-    (both : (r : Regs) (v w : W) → Alike v w → Within (attempt r v .left) → Agreed Alike (attempt r v) (attempt r w)) where
-  resumed-back : (n : ℕ) (o : Outcome W (Progress Regs)) → Within (resumed attempt n o .left) → Within (o .left)
-  resumed-back = resumed-keeps attempt (λ v w. Within w → Within v) (λ w h. h) (λ u v w f g h. f (g h)) back
+-- Two runs. What holds of two turns from alike worlds, as long as what the first leaves is within bounds, holds of two runs.
+module _ {Regs W : Type 0} (turn : Regs → W → Outcome W (Progress Regs)) (Within : W → Type 0) (Alike : W → W → Type 0)
+    (back : (r : Regs) (w : W) → Within (turn r w .left) → Within w)
+    (both : (r : Regs) (v w : W) → Alike v w → Within (turn r v .left) → Agreed Alike (turn r v) (turn r w)) where
+  run-back : (n : ℕ) (r : Regs) (w : W) → Within (run turn n r w .left) → Within w
+  run-back = run-keeps turn (λ v w. Within w → Within v) (λ w h. h) (λ u v w f g h. f (g h)) back
 
-  pub run-both : (n : ℕ) (r : Regs) (v w : W) → Alike v w → Within (run attempt n r v .left) → Agreed Alike (run attempt n r v) (run attempt n r w)
+  pub run-both : (n : ℕ) (r : Regs) (v w : W) → Alike v w → Within (run turn n r v .left) → Agreed Alike (run turn n r v) (run turn n r w)
   unfolding run
   run-both zero r v w s h = record { result = refl; left = s }
   run-both (suc n) r v w s h =
-      let o = attempt r v in let u = attempt r w .left in
-      let a = both r v w s (resumed-back n o h) in
-      subst (λ (y : Progress Regs). Agreed Alike (resumed attempt n o) (resumed attempt n (record { result = y; left = u }))) (a .result)
-      (go (o .result .stop) o u (a .left) h (λ g. run-both n (o .result .regs) (o .left) u (a .left) g))
-    where
-      go : (i : ℕ) (o : Outcome W (Progress Regs)) (u : W) → Alike (o .left) u
-          → let q = run attempt n (o .result .regs) (o .left) in let p = run attempt n (o .result .regs) u in
-          Within (joined i o q .left) → (Within (q .left) → Agreed Alike q p) → Agreed Alike (joined i o q) (joined i (record { result = o .result; left = u }) p)
-      go zero o u s h more = let a = more h in record { result = rw (a .result); left = a .left }
-      go (suc i) o u s h more = record { result = refl; left = s }
+      let o = turn r v in let u = turn r w .left in
+      let a = both r v w s (run-back n (o .result .regs) (o .left) h) in
+      let more = run-both n (o .result .regs) (o .left) u (a .left) h in
+      rw (← a .result) (record { result = rw (more .result); left = more .left })
 
--- Where each step counts one, a run takes no more than its budget, and all of it unless a step stopped it.
-module _ {Regs W : Type 0} (attempt : Regs → W → Outcome W (Progress Regs)) (one : (r : Regs) (w : W) → attempt r w .result .steps ≡ 1) where
-  joined-steps : (i n : ℕ) (o q : Outcome W (Progress Regs)) → o .result .steps ≡ 1 → q .result .steps ≤ n → joined i o q .result .steps ≤ suc n
-  joined-steps zero n o q e h = omega arith
-  joined-steps (suc i) n o q e h = omega arith
-
-  pub within-budget : (n : ℕ) (r : Regs) (w : W) → run attempt n r w .result .steps ≤ n
+-- Where a turn is one step while the registers are awake and nothing else, a run takes no more steps than its budget, and all of it where
+-- it leaves them awake.
+module _ {Regs W : Type 0} (turn : Regs → W → Outcome W (Progress Regs)) (awake : Regs → Bool)
+    (counts : (r : Regs) (w : W) → awake r ≡ true → turn r w .result .steps ≡ 1)
+    (rests : (r : Regs) (w : W) → awake r ≡ false → turn r w ≡ rested r w) where
+  pub within-budget : (n : ℕ) (r : Regs) (w : W) → run turn n r w .result .steps ≤ n
   unfolding run
   within-budget zero r w = omega arith
-  within-budget (suc n) r w =
-      let o = attempt r w in joined-steps (o .result .stop) n o _ (one r w) (within-budget n (o .result .regs) (o .left))
+  within-budget (suc n) r w = let o = turn r w in go (awake r) refl (within-budget n (o .result .regs) (o .left))
+    where
+      go : (b : Bool) → awake r ≡ b → let o = turn r w in run turn n (o .result .regs) (o .left) .result .steps ≤ n
+          → run turn (suc n) r w .result .steps ≤ suc n
+      go true e h = omega (arith, counts r w e)
+      go false e h =
+          let none = ap (λ (o : Outcome W (Progress Regs)). o .result .steps) (run-rests turn r w (rests r w e) (suc n)) in omega (arith, none)
 
-  joined-spent : (i n : ℕ) (o q : Outcome W (Progress Regs)) → o .result .stop ≡ i → o .result .steps ≡ 1
-      → (q .result .stop ≡ 0 → q .result .steps ≡ n) → joined i o q .result .stop ≡ 0 → joined i o q .result .steps ≡ suc n
-  joined-spent zero n o q s e h z = let g = h z in omega arith
-  joined-spent (suc i) n o q s e h z = absurd (omega arith)
-
-  pub budget-spent : (n : ℕ) (r : Regs) (w : W) → run attempt n r w .result .stop ≡ 0 → run attempt n r w .result .steps ≡ n
+  pub budget-spent : (n : ℕ) (r : Regs) (w : W) → awake (run turn n r w .result .regs) ≡ true → run turn n r w .result .steps ≡ n
   unfolding run
-  budget-spent zero r w z = refl
-  budget-spent (suc n) r w z =
-      let o = attempt r w in
-      joined-spent (o .result .stop) n o _ refl (one r w) (budget-spent n (o .result .regs) (o .left)) z
+  budget-spent zero r w h = refl
+  budget-spent (suc n) r w h = let o = turn r w in go (awake r) refl (budget-spent n (o .result .regs) (o .left) h)
+    where
+      go : (b : Bool) → awake r ≡ b → let o = turn r w in run turn n (o .result .regs) (o .left) .result .steps ≡ n
+          → run turn (suc n) r w .result .steps ≡ suc n
+      go true e s = omega (arith, counts r w e)
+      go false e s =
+          let none = ap (λ (o : Outcome W (Progress Regs)). awake (o .result .regs)) (run-rests turn r w (rests r w e) (suc n)) in
+          absurd (true≢false (sym h ∙ none ∙ e))

@@ -13,11 +13,10 @@ use Rattle.memory.specs.World.{World, Sized, byteAt, seen, kept}
 use Rattle.memory.specs.Access.{Access, Outcome, perform}
 use Rattle.memory.specs.Access.Access.{done, readAt, storeAt}
 use Rattle.memory.specs.Theorems.{marks-stay}
-use Rattle.runs.specs.Run.{Progress, joined, run}
-use Rattle.runs.specs.Trace.{Event, events, unlessStopped, taken, trace}
+use Rattle.runs.specs.Run.{Progress, run}
+use Rattle.runs.specs.Trace.{Event, events, taken, trace}
 use Rattle.runs.specs.Trace.Event.{read, store}
 use Rattle.runs.specs.Marks.{storesAt, stored}
-use Rattle.runs.proofs.Run.{resumed}
 
 abbrev pub effect : Event → World → World
 effect (read a) w = seen a w
@@ -37,19 +36,12 @@ replays (done x) w = refl
 replays (readAt a p) w = replays (p (byteAt a w)) (seen a w)
 replays (storeAt a byte p) w = replays p (kept a byte w)
 
-module _ {Regs : Type 0} (step : Regs → Access (Progress Regs)) where
-  pub run-replays : (n : ℕ) (r : Regs) (w : World) → run (taken step) n r w .left ≡ replay (trace step n r w) w
+module _ {Regs : Type 0} (turn : Regs → Access (Progress Regs)) where
+  pub run-replays : (n : ℕ) (r : Regs) (w : World) → run (taken turn) n r w .left ≡ replay (trace turn n r w) w
   unfolding run trace
   run-replays zero r w = refl
   run-replays (suc n) r w =
-      let o = taken step r w in
-      rw (replay-append, ← (replays (step r) w)) (go (o .result .stop) o (run-replays n (o .result .regs) (o .left)))
-    where
-      go : (i : ℕ) (o : Outcome World (Progress Regs))
-          → let q = run (taken step) n (o .result .regs) (o .left) in let t = trace step n (o .result .regs) (o .left) in
-          q .left ≡ replay t (o .left) → joined i o q .left ≡ replay (unlessStopped i t) (o .left)
-      go zero o e = e
-      go (suc i) o e = refl
+      let o = taken turn r w in rw (replay-append, ← (replays (turn r) w)) (run-replays n (o .result .regs) (o .left))
 
 -- ---- marks
 
@@ -130,29 +122,14 @@ perform-unmapped (readAt a p) v w e =
 perform-unmapped (storeAt a byte p) v w e =
     let more = perform-unmapped p (kept a byte v) (kept a byte w) (rw e) in (more .0, ap (store a byte ∷_) (more .1))
 
-module _ {Regs : Type 0} (step : Regs → Access (Progress Regs)) where
-  abbrev rest : ℕ → Outcome World (Progress Regs) → List Event
-  rest n o = unlessStopped (o .result .stop) (trace step n (o .result .regs) (o .left))
-
+module _ {Regs : Type 0} (turn : Regs → Access (Progress Regs)) where
   -- A run's answer, the memory it leaves and the accesses it makes depend on the memory it starts with, and not on the maps.
   pub run-unmapped : (n : ℕ) (r : Regs) (v w : World) → v .memory ≡ w .memory
-      → Unmapped (run (taken step) n r v) (run (taken step) n r w) × (trace step n r v ≡ trace step n r w)
+      → Unmapped (run (taken turn) n r v) (run (taken turn) n r w) × (trace turn n r v ≡ trace turn n r w)
   unfolding run trace
   run-unmapped zero r v w e = (record { result = refl; memory = e }, refl)
   run-unmapped (suc n) r v w e =
-      let o = taken step r v in let u = taken step r w .left in
-      let one = perform-unmapped (step r) v w e in
+      let o = taken turn r v in let u = taken turn r w .left in
+      let one = perform-unmapped (turn r) v w e in
       let more = run-unmapped n (o .result .regs) (o .left) u (one .0 .memory) in
-      subst
-      (λ (y : Progress Regs). Unmapped (resumed (taken step) n o) (resumed (taken step) n (record { result = y; left = u })) × (events (step r) v ++ rest n o ≡ events (step r) w ++ rest n (record { result = y; left = u })))
-      (one .0 .result)
-      (rw (one .1) (go (o .result .stop) o u (one .0 .memory) more))
-    where
-      go : (i : ℕ) (o : Outcome World (Progress Regs)) (u : World) → o .left .memory ≡ u .memory
-          → let q = run (taken step) n (o .result .regs) (o .left) in let p = run (taken step) n (o .result .regs) u in
-          let s = trace step n (o .result .regs) (o .left) in let t = trace step n (o .result .regs) u in
-          Unmapped q p × (s ≡ t)
-          → Unmapped (joined i o q) (joined i (record { result = o .result; left = u }) p)
-          × (events (step r) w ++ unlessStopped i s ≡ events (step r) w ++ unlessStopped i t)
-      go zero o u e m = (record { result = rw (m .0 .result); memory = m .0 .memory }, rw (m .1))
-      go (suc i) o u e m = (record { result = refl; memory = e }, refl)
+      rw (← one .0 .result, one .1) (record { result = rw (more .0 .result); memory = more .0 .memory }, rw (more .1))

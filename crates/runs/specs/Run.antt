@@ -1,25 +1,26 @@
--- A run: steps until the budget is spent or a step stops it. `attempt` is one step, on whatever a step changes.
+-- A run: as many turns as the budget has, one after the other. `turn` is one turn, on whatever it changes: a step, or none.
 use Prim.Native.Nat.{ℕ, zero, suc, _+_}
 use Rattle.memory.specs.Access.{Outcome}
 
--- the registers, how many steps were taken, and why no more were: 0 if the budget was spent
+-- the registers, and how many steps were taken
 pub record Progress (Regs : Type 0) : Type 0 where
   pub regs : Regs
   pub steps : ℕ
-  pub stop : ℕ
 
-abbrev pub progress : {Regs : Type 0} → Regs → ℕ → ℕ → Progress Regs
-progress regs steps stop = record { regs = regs; steps = steps; stop = stop }
+abbrev pub progress : {Regs : Type 0} → Regs → ℕ → Progress Regs
+progress regs steps = record { regs = regs; steps = steps }
 
 module _ {Regs W : Type 0} where
-  -- What was done, and, unless that stopped, what was done after it.
-  abbrev pub joined : ℕ → Outcome W (Progress Regs) → Outcome W (Progress Regs) → Outcome W (Progress Regs)
-  joined zero o q =
-      record { result = progress (q .result .regs) (o .result .steps + q .result .steps) (q .result .stop); left = q .left }
-  joined (suc why) o q = o
+  -- nothing was done
+  abbrev pub rested : Regs → W → Outcome W (Progress Regs)
+  rested r w = record { result = progress r 0; left = w }
 
-module _ {Regs W : Type 0} (attempt : Regs → W → Outcome W (Progress Regs)) where
-  -- Budget 0: no step, stop 0. Else a step, and then a run of what is left of the budget, unless the step stopped.
+  -- What was done, and what was done after it: the steps of both.
+  abbrev pub joined : Outcome W (Progress Regs) → Outcome W (Progress Regs) → Outcome W (Progress Regs)
+  joined o q = record { result = progress (q .result .regs) (o .result .steps + q .result .steps); left = q .left }
+
+module _ {Regs W : Type 0} (turn : Regs → W → Outcome W (Progress Regs)) where
+  -- Budget 0: nothing is done. Else a turn, and then a run of what is left of the budget.
   unfoldable pub run : ℕ → Regs → W → Outcome W (Progress Regs)
-  run zero r w = record { result = progress r 0 0; left = w }
-  run (suc budget) r w = let o = attempt r w in joined (o .result .stop) o (run budget (o .result .regs) (o .left))
+  run zero r w = rested r w
+  run (suc budget) r w = let o = turn r w in joined o (run budget (o .result .regs) (o .left))

@@ -27,19 +27,12 @@ events (done x) w = []
 events (readAt a p) w = read a ∷ events (p (byteAt a w)) (seen a w)
 events (storeAt a byte p) w = store a byte ∷ events p (kept a byte w)
 
--- nothing follows a stop
-abbrev pub unlessStopped : ℕ → List Event → List Event
-unlessStopped zero t = t
-unlessStopped (suc why) t = []
-
-module _ {Regs : Type 0} (step : Regs → Access (Progress Regs)) where
-  -- a step by its accesses
+module _ {Regs : Type 0} (turn : Regs → Access (Progress Regs)) where
+  -- a turn by its accesses
   abbrev pub taken : Regs → World → Outcome World (Progress Regs)
-  taken r w = perform (step r) w
+  taken r w = perform (turn r) w
 
-  -- the accesses of each step in turn
+  -- the accesses of each turn, one after the other
   unfoldable pub trace : ℕ → Regs → World → List Event
   trace zero r w = []
-  trace (suc budget) r w =
-      let o = taken r w in
-      events (step r) w ++ unlessStopped (o .result .stop) (trace budget (o .result .regs) (o .left))
+  trace (suc budget) r w = let o = taken r w in events (turn r) w ++ trace budget (o .result .regs) (o .left)

@@ -7,6 +7,8 @@ use native.Mathlib.Decide.{ℕ-discrete}
 use lib.Dec.{eqb}
 use lib.ListN.{length, take}
 use Rattle.laws.specs.Filled.{Filled, filled}
+use Rattle.waking.specs.States.{isAwake}
+use Rattle.waking.specs.declared.State.the-variants.{Awake}
 use Rattle.psw.specs.Status.{cleared}
 use Rattle.processor.specs.declared.Processor.{Processor}
 use Rattle.spc_file.specs.Layout.{signature, recordIn, memoryIn, laid}
@@ -16,9 +18,9 @@ use Rattle.spc_file.specs.declared.FileRead.{FileRead}
 unfoldable pub refusalOf : List ℕ → ℕ
 refusalOf file = cond (eqb (length file) 66048) (ite (List-discrete ℕ-discrete (take 33 file) signature) 0 8) 7
 
--- a record of zeros
+-- a record of zeros, awake
 abbrev pub zeros : Processor
-zeros = record { a = 0; x = 0; y = 0; sp = 0; pc = 0; psw = cleared }
+zeros = record { a = 0; x = 0; y = 0; sp = 0; pc = 0; psw = cleared; state = Awake }
 
 abbrev pub fileRead : ℕ → Processor → FileRead
 fileRead refusal cpu = record { refusal = refusal; cpu = cpu }
@@ -31,9 +33,11 @@ readOf file = cond (eqb (refusalOf file) 0) (fileRead 0 (recordIn file)) (fileRe
 abbrev pub memoryOf : List ℕ → List ℕ
 memoryOf file = cond (eqb (refusalOf file) 0) (memoryIn file) []
 
--- A write has the file's refusals; then 1 exactly if the memory is not 65,536 bytes.
-unfoldable pub writeRefusal : List ℕ → List ℕ → ℕ
-writeRefusal memory file = cond (eqb (refusalOf file) 0) (cond (eqb (length memory) 65536) 0 1) (refusalOf file)
+-- A write has the file's refusals; then 1 exactly if the memory is not 65,536 bytes; then 12 exactly if the record is not awake, since a
+-- file would give it back awake.
+unfoldable pub writeRefusal : Processor → List ℕ → List ℕ → ℕ
+writeRefusal cpu memory file =
+    cond (eqb (refusalOf file) 0) (cond (eqb (length memory) 65536) (cond (isAwake (cpu .state)) 0 12) 1) (refusalOf file)
 
 -- A call that may be refused: it answers the refusal, and leaves something new in the lent slice where that is 0, else what the slice held.
 abbrev pub unlessRefused : ℕ → List ℕ → List ℕ → Filled ℕ
@@ -41,4 +45,4 @@ unlessRefused refusal new old = cond (eqb refusal 0) (filled 0 new) (filled refu
 
 -- Writing answers the refusal and leaves the file with record and memory in it; refused, the file as it was.
 abbrev pub writeOf : Processor → List ℕ → List ℕ → Filled ℕ
-writeOf cpu memory file = unlessRefused (writeRefusal memory file) (laid cpu memory file) file
+writeOf cpu memory file = unlessRefused (writeRefusal cpu memory file) (laid cpu memory file) file

@@ -5,6 +5,7 @@ use mathlib.Core.List.{List, [], _∷_}
 use lib.ListN.{getD, take, drop}
 use lib.Seq.{sets}
 use Rattle.text.specs.Quoted.{text}
+use Rattle.waking.specs.declared.State.the-variants.{Awake}
 use Rattle.psw.specs.Status.{byteOf, flagsOf}
 use Rattle.processor.specs.Record.{wordOf}
 use Rattle.processor.specs.declared.Processor.{Processor}
@@ -13,7 +14,7 @@ use Rattle.processor.specs.declared.Processor.{Processor}
 unfoldable pub signature : List ℕ
 signature = text "SNES-SPC700 Sound File Data v0.30"
 
--- The record: PC at 37 and 38, low first, then A X Y PSW SP at 39 to 43.
+-- The record: PC at 37 and 38, low first, then A X Y PSW SP at 39 to 43. A file has no place for its state: what it gives is awake.
 unfoldable pub recordIn : List ℕ → Processor
 recordIn file = record {
   pc = wordOf (getD file 37 0) (getD file 38 0);
@@ -22,6 +23,7 @@ recordIn file = record {
   y = getD file 41 0;
   psw = flagsOf (getD file 42 0);
   sp = getD file 43 0;
+  state = Awake;
 }
 
 -- the seven bytes of a record, in the file's order

@@ -3,6 +3,7 @@
 -- Assumes nothing.
 use Prim.Native.Nat.{ℕ, _+_, _-_, _/_, _%_, _<_, _≤_}
 use mathlib.Core.Path.{_≡_, refl, sym, ap, subst, _∙_}
+use mathlib.Core.Bool.{Bool, true, false}
 use mathlib.Core.List.{List, List-discrete}
 use mathlib.Core.Logic.{_⊎_, inl, inr, ⊎-elim, if-pos, if-neg}
 use native.Mathlib.Decide.{ℕ-discrete, decLe}
@@ -13,8 +14,10 @@ use borrow.Author.Tests.{eq-eqb, ne-eqb}
 use Rattle.laws.specs.Bytes.{Bytes}
 use Rattle.laws.specs.Filled.{Filled, filled}
 use Rattle.laws.specs.Stored.{other-place, stored-place, before-stored, stored-part, standing-stays, stored-again}
+use Rattle.waking.specs.States.{isAwake}
 use Rattle.psw.specs.Theorems.{byte-to-flags-and-back, flags-to-byte-and-back}
-use Rattle.processor.specs.Record.{wordOf}
+use Rattle.processor.specs.Record.{woken, wordOf}
+use Rattle.processor.specs.Theorems.{woken-again}
 use Rattle.processor.specs.declared.Processor.{Processor}
 use Rattle.spc_file.specs.Layout.{signature, recordIn, recordBytes, memoryIn, laid}
 use Rattle.spc_file.specs.Calls.{refusalOf, fileRead, readOf, memoryOf, writeRefusal, writeOf}
@@ -45,10 +48,20 @@ accepted {file} e = go (ℕ-discrete (length file) 66048) (List-discrete ℕ-dis
         absurd (omega (arith, rw (eq-eqb _ _ size, others) at e))
     go (no n) begins = absurd (omega (arith, rw (ne-eqb _ _ n) at e))
 
--- What reading then gives.
+-- What reading then gives: the record,
 pub gives-record : (file : List ℕ) → refusalOf file ≡ 0 → readOf file ≡ fileRead 0 (recordIn file)
 gives-record file z = rw (eq-eqb _ _ z)
 
+-- which is awake, as it is where it is refused,
+pub gives-awake : (file : List ℕ) → isAwake (readOf file .cpu .state) ≡ true
+unfolding recordIn
+gives-awake file =
+    elim (ℕ-discrete (refusalOf file) 0) [
+      | yes z ↦ rw (eq-eqb _ _ z)
+      | no n ↦ rw (ne-eqb _ _ n)
+    ]
+
+-- and the memory.
 pub gives-part : (file : List ℕ) → refusalOf file ≡ 0 → memoryOf file ≡ memoryIn file
 gives-part file z = rw (eq-eqb _ _ z)
 
@@ -58,26 +71,33 @@ memory-size {file} a = length-take-le 65536 (drop 256 file) (rw length-drop (ome
 
 -- ---- a write
 
-module _ (memory file : List ℕ) where
-  -- It is accepted if the file is and the memory has its length,
-  pub writes : Accepted file → length memory ≡ 65536 → writeRefusal memory file ≡ 0
+-- what a write asks for: an accepted file, a memory that has its length, and a record that is awake
+pub record Writable (cpu : Processor) (memory file : List ℕ) : Type 0 where
+  pub accepted : Accepted file
+  pub size : length memory ≡ 65536
+  pub awake : isAwake (cpu .state) ≡ true
+
+module _ (cpu : Processor) (memory file : List ℕ) where
+  -- It is accepted then,
+  pub writes : Writable cpu memory file → writeRefusal cpu memory file ≡ 0
   unfolding writeRefusal
-  writes a size = rw (eq-eqb _ _ (accepts a), eq-eqb _ _ size)
+  writes w = rw (eq-eqb _ _ (accepts (w .accepted)), eq-eqb _ _ (w .size), w .awake)
 
   -- and only then.
-  pub written : writeRefusal memory file ≡ 0 → Accepted file × (length memory ≡ 65536)
+  pub written : writeRefusal cpu memory file ≡ 0 → Writable cpu memory file
   unfolding writeRefusal
-  written e = go (ℕ-discrete (refusalOf file) 0) (ℕ-discrete (length memory) 65536)
+  written e = go (ℕ-discrete (refusalOf file) 0) (ℕ-discrete (length memory) 65536) (isAwake (cpu .state)) refl
     where
-      go : Dec (refusalOf file ≡ 0) → Dec (length memory ≡ 65536) → Accepted file × (length memory ≡ 65536)
-      go (yes z) (yes size) = (accepted z, size)
-      go (yes z) (no n) = absurd (omega (arith, rw (eq-eqb _ _ z, ne-eqb _ _ n) at e))
-      go (no n) size = absurd (n (rw (ne-eqb _ _ n) at e))
+      go : Dec (refusalOf file ≡ 0) → Dec (length memory ≡ 65536) → (b : Bool) → isAwake (cpu .state) ≡ b → Writable cpu memory file
+      go (yes z) (yes size) true awake = record { accepted = accepted z; size = size; awake = awake }
+      go (yes z) (yes size) false rest = absurd (omega (arith, rw (eq-eqb _ _ z, eq-eqb _ _ size, rest) at e))
+      go (yes z) (no n) b f = absurd (omega (arith, rw (eq-eqb _ _ z, ne-eqb _ _ n) at e))
+      go (no n) size b f = absurd (n (rw (ne-eqb _ _ n) at e))
 
   -- A file that reading refuses is refused by a write with the same number, and stays as it was.
-  pub refused-file : (cpu : Processor) → (refusalOf file ≡ 0 → ⊥) → writeOf cpu memory file ≡ filled (refusalOf file) file
+  pub refused-file : (refusalOf file ≡ 0 → ⊥) → writeOf cpu memory file ≡ filled (refusalOf file) file
   unfolding writeRefusal
-  refused-file cpu n = rw (ne-eqb _ _ n, ne-eqb _ _ n)
+  refused-file n = rw (ne-eqb _ _ n, ne-eqb _ _ n)
 
 -- the places to which it stores
 abbrev pub Stored : ℕ → Type 0
@@ -116,21 +136,21 @@ module _ (cpu : Processor) (memory file : List ℕ) where
   laid-memory whole size i h = stored-place memory (sets file 37 (recordBytes cpu)) 256 i (rw length-sets (omega arith)) (omega arith)
 
   -- Accepted, it leaves record and memory in their places.
-  pub lays : writeRefusal memory file ≡ 0 → writeOf cpu memory file ≡ filled 0 (laid cpu memory file)
-  lays z = not-refused (writeRefusal memory file) (laid cpu memory file) file z
+  pub lays : writeRefusal cpu memory file ≡ 0 → writeOf cpu memory file ≡ filled 0 (laid cpu memory file)
+  lays z = not-refused (writeRefusal cpu memory file) (laid cpu memory file) file z
 
   -- what holds of the file as it was, and with record and memory in it where they are accepted, holds of the file that is left
-  of-what-is-left : (P : List ℕ → Type 0) → P file → (writeRefusal memory file ≡ 0 → P (laid cpu memory file))
+  of-what-is-left : (P : List ℕ → Type 0) → P file → (writeRefusal cpu memory file ≡ 0 → P (laid cpu memory file))
       → P (writeOf cpu memory file .left)
-  of-what-is-left P as-it-was accepted = go (ℕ-discrete (writeRefusal memory file) 0)
+  of-what-is-left P as-it-was accepted = go (ℕ-discrete (writeRefusal cpu memory file) 0)
     where
-      go : Dec (writeRefusal memory file ≡ 0) → P (writeOf cpu memory file .left)
+      go : Dec (writeRefusal cpu memory file ≡ 0) → P (writeOf cpu memory file .left)
       go (yes z) = rw (eq-eqb _ _ z) (accepted z)
       go (no n) = rw (ne-eqb _ _ n) as-it-was
 
   -- Whatever it answers, every other byte of the file stays,
   pub others-stay : (at : ℕ) → (Stored at → ⊥) → getD (writeOf cpu memory file .left) at 0 ≡ getD file at 0
-  others-stay at other = of-what-is-left (λ l. getD l at 0 ≡ getD file at 0) refl (λ z. laid-elsewhere (written memory file z .1) at other)
+  others-stay at other = of-what-is-left (λ l. getD l at 0 ≡ getD file at 0) refl (λ z. laid-elsewhere (written cpu memory file z .size) at other)
 
   -- and the file is as long as it was.
   pub same-length : length (writeOf cpu memory file .left) ≡ length file
@@ -178,6 +198,11 @@ module _ (file : List ℕ) (bytes : Bytes file) where
   pub same-file : Accepted file → laid (recordIn file) (memoryIn file) file ≡ file
   same-file a = rw same-record (stored-again 65536 file 256 (omega (arith, a .size)))
 
+  -- What a file gives can be written into it,
+  own-record : Accepted file → Writable (recordIn file) (memoryIn file) file
+  unfolding recordIn
+  own-record a = record { accepted = a; size = memory-size a; awake = refl }
+
   -- Reading a file and then writing into it what was read changes nothing; a file that is refused is refused both times, with one number.
   pub read-then-write : writeOf (readOf file .cpu) (memoryOf file) file ≡ filled (refusalOf file) file
   read-then-write = go (ℕ-discrete (refusalOf file) 0)
@@ -186,10 +211,10 @@ module _ (file : List ℕ) (bytes : Bytes file) where
       go (yes z) =
           ap (λ (f : FileRead). writeOf (f .cpu) (memoryOf file) file) (gives-record file z)
           ∙ ap (λ (m : List ℕ). writeOf (recordIn file) m file) (gives-part file z)
-          ∙ lays (recordIn file) (memoryIn file) file (writes (memoryIn file) file (accepted z) (memory-size (accepted z)))
+          ∙ lays (recordIn file) (memoryIn file) file (writes (recordIn file) (memoryIn file) file (own-record (accepted z)))
           ∙ ap (λ (l : List ℕ). filled 0 l) (same-file (accepted z))
           ∙ ap (λ (n : ℕ). filled n file) (sym z)
-      go (no n) = refused-file (memoryOf file) file (readOf file .cpu) n
+      go (no n) = refused-file (readOf file .cpu) (memoryOf file) file n
 
 -- what reading gives of a file in which this record and this memory stand
 pub record GivesBack (cpu : Processor) (memory file : List ℕ) : Type 0 where
@@ -211,8 +236,8 @@ module _ (cpu : Processor) (memory file : List ℕ) where
     at-37 : (i : ℕ) → i < 7 → getD (laid cpu memory file) (37 + i) 0 ≡ getD (recordBytes cpu) i 0
     at-37 = laid-record cpu memory file (a .size)
 
-    -- in which the record
-    pub same-registers : recordIn (laid cpu memory file) ≡ cpu
+    -- in which the record, awake,
+    pub same-registers : recordIn (laid cpu memory file) ≡ woken cpu
     unfolding recordIn recordBytes
     same-registers =
         let word : wordOf (cpu .pc % 256) (cpu .pc / 256) ≡ cpu .pc = omega arith in
@@ -234,7 +259,7 @@ module _ (cpu : Processor) (memory file : List ℕ) where
         let room : 256 + length memory ≤ length (sets file 37 (recordBytes cpu)) = rw length-sets (omega (arith, a .size, size)) in
         rw size at (stored-part memory (sets file 37 (recordBytes cpu)) 256 room)
 
-    laid-gives-back : GivesBack cpu memory (laid cpu memory file)
+    laid-gives-back : GivesBack (woken cpu) memory (laid cpu memory file)
     laid-gives-back = record {
       read = gives-record (laid cpu memory file) (accepts still-accepted) ∙ ap (λ (c : Processor). fileRead 0 c) same-registers;
       part = gives-part (laid cpu memory file) (accepts still-accepted) ∙ same-memory;
@@ -243,6 +268,7 @@ module _ (cpu : Processor) (memory file : List ℕ) where
   -- Writing and then reading gives back what was written.
   pub write-then-read : writeOf cpu memory file .answer ≡ 0 → GivesBack cpu memory (writeOf cpu memory file .left)
   write-then-read e =
-      let z = sym (answers (writeRefusal memory file) (laid cpu memory file) file) ∙ e in
-      let w = written memory file z in
-      subst (λ (o : Filled ℕ). GivesBack cpu memory (o .left)) (sym (lays cpu memory file z)) (laid-gives-back (w .0) (w .1))
+      let z = sym (answers (writeRefusal cpu memory file) (laid cpu memory file) file) ∙ e in
+      let w = written cpu memory file z in
+      subst (λ (o : Filled ℕ). GivesBack cpu memory (o .left)) (sym (lays cpu memory file z))
+      (subst (λ (c : Processor). GivesBack c memory (laid cpu memory file)) (woken-again cpu (w .awake)) (laid-gives-back (w .accepted) (w .size)))

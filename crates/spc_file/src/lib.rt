@@ -7,6 +7,7 @@ ghost use Rattle.spc_file.specs.Layout.{recordIn, recordBytes};
 ghost use Rattle.spc_file.specs.Calls.{refusalOf, readOf, memoryOf, writeRefusal, writeOf};
 use processor::Processor;
 use psw::ProgramStatusWord;
+use waking::State;
 
 // The first 33 bytes of every file.
 pub const SIGNATURE: [u8; 33] = *b"SNES-SPC700 Sound File Data v0.30";
@@ -31,7 +32,7 @@ fn refusal_of(file: &[u8]) -> u8
     8
 }
 
-// The record that stands in a file.
+// The record that stands in a file: awake, since a file has no place for a state.
 fn record_in(file: &[u8]) -> Processor
     requires { ⌜ length (now file) ≡ 66048 ⌝ }
     ensures { λ r. ⌜ r ≡ recordIn (now (file .entry)) ⌝ }
@@ -43,6 +44,7 @@ fn record_in(file: &[u8]) -> Processor
         y: file[41],
         psw: ProgramStatusWord::from_byte(file[42]),
         sp: file[43],
+        state: State::Awake,
     }
 }
 
@@ -61,6 +63,7 @@ pub fn read(file: &[u8]) -> FileRead
                 sp: 0,
                 pc: 0,
                 psw: ProgramStatusWord::default(),
+                state: State::Awake,
             },
         };
     }
@@ -95,9 +98,9 @@ fn lay_record(file: &mut [u8], cpu: Processor)
     file[43] = cpu.sp;
 }
 
-// The refusals of a write: those of the file, then 1 for a memory that is not 65,536 bytes.
-fn write_refusal(file: &[u8], memory: &[u8]) -> u8
-    ensures { λ r. ⌜ r ≡ writeRefusal (now (memory .entry)) (now (file .entry)) ⌝ }
+// The refusals of a write: those of the file, then 1 for a memory that is not 65,536 bytes, then 12 for a record that is not awake.
+fn write_refusal(file: &[u8], cpu: Processor, memory: &[u8]) -> u8
+    ensures { λ r. ⌜ r ≡ writeRefusal cpu (now (memory .entry)) (now (file .entry)) ⌝ }
 {
     let refusal = refusal_of(file);
     if refusal != 0 {
@@ -106,6 +109,9 @@ fn write_refusal(file: &[u8], memory: &[u8]) -> u8
     if memory.len() != 65536 {
         return 1;
     }
+    if !cpu.is_awake() {
+        return 12;
+    }
     0
 }
 
@@ -113,7 +119,7 @@ fn write_refusal(file: &[u8], memory: &[u8]) -> u8
 pub fn write(file: &mut [u8], cpu: Processor, memory: &[u8]) -> u8
     ensures { λ r. ⌜ Fills (writeOf cpu (now (memory .entry))) file r ⌝ }
 {
-    let refusal = write_refusal(file, memory);
+    let refusal = write_refusal(file, cpu, memory);
     if refusal != 0 {
         return refusal;
     }

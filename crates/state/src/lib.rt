@@ -1,11 +1,12 @@
-// The register record as seven bytes: A X Y SP PC-low PC-high PSW.
+// The register record as bytes: as seven, A X Y SP PC-low PC-high PSW, which hold no state, and as eight, with the number of the state last.
 ghost use mathlib.Core.Path.{_≡_};
 ghost use lib.ListN.{length};
-ghost use Rattle.state.specs.Registers.{registersOf, bytesOf};
+ghost use Rattle.state.specs.Registers.{registersOf, bytesOf, isWhole, wholeOf, wholeBytesOf};
 use processor::Processor;
 use psw::ProgramStatusWord;
+use waking::State;
 
-// The record that seven bytes hold.
+// The record that seven bytes hold: awake.
 pub fn registers(bytes: &[u8]) -> Processor
     requires { ⌜ length (now bytes) ≡ 7 ⌝ }
     ensures { λ r. ⌜ r ≡ registersOf (now (bytes .entry)) ⌝ }
@@ -17,6 +18,7 @@ pub fn registers(bytes: &[u8]) -> Processor
         sp: bytes[3],
         pc: processor::word(bytes[4], bytes[5]),
         psw: ProgramStatusWord::from_byte(bytes[6]),
+        state: State::Awake,
     }
 }
 
@@ -33,4 +35,30 @@ pub fn set_registers(bytes: &mut [u8], cpu: Processor)
     bytes[4] = (cpu.pc % 256) as u8;
     bytes[5] = (cpu.pc / 256) as u8;
     bytes[6] = psw.to_byte();
+}
+
+// Whether bytes are a whole record: eight of them, with a state's number last.
+pub fn is_whole(bytes: &[u8]) -> bool
+    ensures { λ r. ⌜ r ≡ isWhole (now (bytes .entry)) ⌝ }
+{
+    bytes.len() == 8 && waking::is_state(bytes[7])
+}
+
+// The record that eight bytes hold.
+pub fn whole(bytes: &[u8]) -> Processor
+    requires { ⌜ length (now bytes) ≡ 8 ⌝ }
+    ensures { λ r. ⌜ r ≡ wholeOf (now (bytes .entry)) ⌝ }
+{
+    let cpu = registers(&bytes[0..7]);
+    cpu.with_state(waking::state_of(bytes[7]))
+}
+
+// Stores the record in eight bytes.
+pub fn set_whole(bytes: &mut [u8], cpu: Processor)
+    requires { ⌜ length (now bytes) ≡ 8 ⌝ }
+    ensures { λ r. ⌜ now (bytes .exit) ≡ wholeBytesOf cpu ⌝ }
+{
+    let state = cpu.state;
+    set_registers(&mut bytes[0..7], cpu);
+    bytes[7] = waking::number_of(state);
 }

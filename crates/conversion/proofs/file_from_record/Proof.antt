@@ -2,6 +2,7 @@
 -- Assumes nothing.
 use Prim.Native.Nat.{ℕ, _≤_}
 use mathlib.Core.Path.{_≡_, sym, ap, subst, _∙_}
+use mathlib.Core.Bool.{true}
 use mathlib.Core.List.{List, _++_}
 use native.Mathlib.Omega.{arith}
 use lib.ListN.{length, take, drop, length-append, length-take, length-drop}
@@ -10,8 +11,10 @@ use borrow.Author.Needs.{needs}
 use borrow.Author.Tests.{eq-eqb, ne-eqb}
 use borrow.Rule.Slice.PartAt.{part-to-end}
 use Rattle.laws.specs.Filled.{filled}
+use Rattle.waking.specs.States.{isAwake}
 use Rattle.processor.specs.declared.Processor.{Processor}
 use Rattle.state.specs.Registers.{registersOf}
+use Rattle.state.specs.Theorems.{seven-awake}
 use Rattle.spc_file.specs.Layout.{signature, laid}
 use Rattle.spc_file.specs.Calls.{writeOf}
 use Rattle.spc_file.specs.Refused.{not-refused}
@@ -61,8 +64,9 @@ module _ (state file : List ℕ) where
     made {copied} {defaulted} {part} {left} {cpu} w c d k p =
         let plain : Plain defaulted = subst (λ (l : List ℕ). Plain l) (sym d) (made-plain (copied ++ drop 33 file) (signed c)) in
         let whole : length part ≡ 65536 = rw p (rw length-drop (omega arith)) in
+        let awake : isAwake (cpu .state) ≡ true = rw k (seven-awake (take 7 state)) in
         w
-        ∙ lays cpu part defaulted (writes part defaulted (plain .accepted) whole)
+        ∙ lays cpu part defaulted (writes cpu part defaulted (record { accepted = plain .accepted; size = whole; awake = awake }))
         ∙ ap (λ (l : List ℕ). filled 0 l) (plain-alike plain new-plain cpu part whole)
         ∙ ap (λ (c : Processor). filled 0 (laid c part newFile)) k
         ∙ ap (λ (m : List ℕ). filled 0 (laid (registersOf (take 7 state)) m newFile)) p

@@ -5,7 +5,7 @@ use mathlib.Core.Path.{_≡_}
 use mathlib.Core.List.{List}
 use borrow.Author.Needs.{needs}
 use borrow.Author.Tests.{eq-eqb, ne-eqb}
-use Rattle.state.specs.Registers.{bytesOf}
+use Rattle.state.specs.Registers.{wholeBytesOf}
 use Rattle.engine.specs.declared.Ran.{Ran}
 use Rattle.exports.specs.Calls.{packed, Handed}
 use Rattle.exports.proofs.hand_back.Statement.{statement}
@@ -16,7 +16,7 @@ module _ (registers : List ℕ) (ran : Ran) where
       → Handed ran registers registers r
   refused n e = record { whatever = λ w. rw (e, ne-eqb _ _ n) }
 
-  accepted : {r : ℕ} {after : List ℕ} → ran .refusal ≡ 0 → after ≡ bytesOf (ran .cpu) → r ≡ packed 0 (ran .stop) (ran .steps)
+  accepted : {r : ℕ} {after : List ℕ} → ran .refusal ≡ 0 → after ≡ wholeBytesOf (ran .cpu) → r ≡ packed 0 (ran .stop) (ran .steps)
       → Handed ran registers after r
   accepted z a e = record { whatever = λ w. rw (e, a, eq-eqb _ _ z) }
 
@@ -26,8 +26,8 @@ packed-requires c κs = search needs
 returns : tie.Need-returns
 returns c = search (needs, refused)
 
-set-registers-requires : tie.Need-set-registers-requires
-set-registers-requires c κs = search needs
+set-whole-requires : tie.Need-set-whole-requires
+set-whole-requires c κs = search needs
 
 packed-requires-2 : tie.Need-packed-requires-2
 packed-requires-2 c κs = search needs
@@ -44,7 +44,7 @@ hand-back-spec =
     (tie.spec
     packed-requires
     returns
-    set-registers-requires
+    set-whole-requires
     packed-requires-2
     same-length
     returns-2)

@@ -5,6 +5,7 @@ use mathlib.Core.Path.{_≡_}
 use mathlib.Core.List.{List}
 use borrow.Author.Needs.{needs}
 use borrow.Author.Tests.{eq-eqb, ne-eqb}
+use Rattle.waking.specs.declared.State.the-variants.{Awake}
 use Rattle.psw.specs.Status.{cleared}
 use Rattle.psw.specs.declared.ProgramStatusWord.{ProgramStatusWord}
 use Rattle.processor.specs.declared.Processor.{Processor}
@@ -16,7 +17,7 @@ use Rattle.spc_file.proofs.read.Tie as tie
 
 module _ (file : List ℕ) {refusal : ℕ} (is : refusal ≡ refusalOf file) where
   refused : {psw : ProgramStatusWord} → (refusal ≡ 0 → ⊥) → psw ≡ cleared
-      → fileRead refusal (record { a = 0; x = 0; y = 0; sp = 0; pc = 0; psw = psw }) ≡ readOf file
+      → fileRead refusal (record { a = 0; x = 0; y = 0; sp = 0; pc = 0; psw = psw; state = Awake }) ≡ readOf file
   refused n clear = rw (clear, ← is, ne-eqb _ _ n)
 
   accepted : {cpu : Processor} → refusal ≡ 0 → cpu ≡ recordIn file → fileRead 0 cpu ≡ readOf file

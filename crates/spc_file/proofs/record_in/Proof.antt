@@ -5,6 +5,7 @@ use mathlib.Core.Path.{_≡_}
 use mathlib.Core.List.{List}
 use lib.ListN.{getD}
 use borrow.Author.Needs.{needs}
+use Rattle.waking.specs.declared.State.the-variants.{Awake}
 use Rattle.psw.specs.Status.{flagsOf}
 use Rattle.psw.specs.declared.ProgramStatusWord.{ProgramStatusWord}
 use Rattle.processor.specs.Record.{wordOf}
@@ -14,7 +15,7 @@ use Rattle.spc_file.proofs.record_in.Statement.{statement}
 use Rattle.spc_file.proofs.record_in.Tie as tie
 
 abbrev record-of : List ℕ → ℕ → ProgramStatusWord → Processor
-record-of file pc psw = record { pc = pc; a = getD file 39 0; x = getD file 40 0; y = getD file 41 0; psw = psw; sp = getD file 43 0 }
+record-of file pc psw = record { pc = pc; a = getD file 39 0; x = getD file 40 0; y = getD file 41 0; psw = psw; sp = getD file 43 0; state = Awake }
 
 held : (file : List ℕ) {pc : ℕ} {psw : ProgramStatusWord} → pc ≡ wordOf (getD file 37 0) (getD file 38 0) → psw ≡ flagsOf (getD file 42 0)
     → record-of file pc psw ≡ recordIn file

@@ -18,16 +18,16 @@ use Rattle.spc_file.proofs.Laws.{whole-part}
 use Rattle.spc_file.proofs.write.Statement.{statement}
 use Rattle.spc_file.proofs.write.Tie as tie
 
-module _ (cpu : Processor) (memory file : List ℕ) {refusal : ℕ} (is : refusal ≡ writeRefusal memory file) where
+module _ (cpu : Processor) (memory file : List ℕ) {refusal : ℕ} (is : refusal ≡ writeRefusal cpu memory file) where
   refused : (refusal ≡ 0 → ⊥) → filled refusal file ≡ writeOf cpu memory file
   refused n = rw (← is, ne-eqb _ _ n)
 
   module _ (z : refusal ≡ 0) where
     sized : length file ≡ 66048
-    sized = written memory file (sym is ∙ z) .0 .size
+    sized = written cpu memory file (sym is ∙ z) .accepted .size
 
     whole : length memory ≡ 65536
-    whole = written memory file (sym is ∙ z) .1
+    whole = written cpu memory file (sym is ∙ z) .size
 
     module _ {with-record : List ℕ} (e : with-record ≡ sets file 37 (recordBytes cpu)) where
       room : (end : ℕ) → end ≤ 66048 → end ≤ length with-record

@@ -59,11 +59,17 @@ daa-requires c κs = search needs
 registers-requires-3 : tie.Need-registers-requires-3
 registers-requires-3 c κs = search needs
 
-stopping-requires : tie.Need-stopping-requires
-stopping-requires c κs = search needs
+with-state-requires : tie.Need-with-state-requires
+with-state-requires c κs = search needs
 
-stopping-requires-2 : tie.Need-stopping-requires-2
-stopping-requires-2 c κs = search needs
+registers-requires-4 : tie.Need-registers-requires-4
+registers-requires-4 c κs = search needs
+
+with-state-requires-2 : tie.Need-with-state-requires-2
+with-state-requires-2 c κs = search needs
+
+registers-requires-5 : tie.Need-registers-requires-5
+registers-requires-5 c κs = search needs
 
 returns : tie.Need-returns
 unfolding rows effectOf
@@ -150,8 +156,10 @@ jumps-and-calls-spec =
     registers-requires-2
     daa-requires
     registers-requires-3
-    stopping-requires
-    stopping-requires-2
+    with-state-requires
+    registers-requires-4
+    with-state-requires-2
+    registers-requires-5
     returns
     returns-2
     returns-3

@@ -11,11 +11,11 @@ use Rattle.effects.proofs.kinds.branching.Statement.{statement}
 use Rattle.effects.proofs.kinds.branching.Tie as tie
 
 -- a branch that is taken; one that is not
-goes : (b : Bool) (stores : Stores) (cpu : Processor) → b ≡ true → effect cpu stores true 0 ≡ branching b stores cpu
+goes : (b : Bool) (stores : Stores) (cpu : Processor) → b ≡ true → effect cpu stores true ≡ branching b stores cpu
 goes b stores cpu e = rw e
 
 stays : (b : Bool) (stores : Stores) {next : Processor} (cpu : Processor)
-    → b ≡ false → next ≡ onward cpu → effect next stores false 0 ≡ branching b stores cpu
+    → b ≡ false → next ≡ onward cpu → effect next stores false ≡ branching b stores cpu
 stays b stores cpu e f = rw (e, f)
 
 returns : tie.Need-returns
