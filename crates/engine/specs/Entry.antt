@@ -44,13 +44,14 @@ refusalOf number w =
 abbrev pub answered : ℕ → Processor → World → Outcome World (Progress Processor) → Outcome World Ran
 answered number cpu w o = cond (eqb (refusalOf number w) 0) (accepted o) (refused (refusalOf number w) cpu w)
 
--- One step in an edition, counted, of a record that is awake: SLEEP and STOP count, too. A record that is not takes none, and nothing changes.
+-- One step in an edition, counted, of a record that is awake: SLEEP and STOP count, too. A record that is not awake takes none, and nothing
+-- changes.
 unfoldable pub countedStep : Edition → Processor → Access (Progress Processor)
 countedStep edition cpu =
     cond (isAwake (cpu .state)) (then (stepOf edition cpu) (λ next. done (progress next 1))) (done (progress cpu 0))
 
--- A run, all in one edition: as many of these as the budget has, one after the other. So it takes steps until the budget is spent or SLEEP or
--- STOP was executed, and none if the record is not awake to begin with.
+-- A run, all in one edition: as many of these as the budget has, one after the other. So it takes steps until the budget is spent or SLEEP
+-- or STOP was executed, and none if the record is not awake to begin with.
 abbrev pub runOf : Edition → ℕ → Processor → World → Outcome World (Progress Processor)
 runOf edition = run (taken (countedStep edition))
 

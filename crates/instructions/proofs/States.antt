@@ -1,7 +1,7 @@
 -- A step leaves the record's state as it was, but for SLEEP and STOP: no mode, store or branch touches it, and one computed test over the
 -- table shows that the rows of the two are the only ones whose operation does.
 -- Assumes nothing.
-use Prim.Native.Nat.{ℕ, _*_, _<_}
+use Prim.Native.Nat.{ℕ, _+_, _-_, _*_, _/_, _%_, _<_}
 use mathlib.Core.Path.{_≡_, refl, subst, _∙_}
 use mathlib.Core.Bool.{Bool, true, false, cond, not, _||_}
 use mathlib.Core.Logic.{_⊎_, inl, inr, ⊎-elim}
@@ -15,7 +15,7 @@ use Rattle.waking.specs.declared.State.{State}
 use Rattle.memory.specs.World.{World, byteAt, seen, kept}
 use Rattle.memory.specs.Access.{Access, then, perform}
 use Rattle.memory.specs.Access.Access.{done, readAt, storeAt}
-use Rattle.processor.specs.Record.{started, withY, produced}
+use Rattle.processor.specs.Record.{started, withY, wordOf, produced}
 use Rattle.processor.specs.Products.{divided, divOf}
 use Rattle.processor.specs.Decimal.{daaOf, dasOf}
 use Rattle.processor.specs.declared.Processor.{Processor}
@@ -75,7 +75,13 @@ past-or-not : (t : Bool) (cpu : Processor) → cond t cpu (onward cpu) .state �
 past-or-not t cpu = either t cpu (onward cpu) refl refl
 
 div-stays : (cpu : Processor) → divOf cpu .state ≡ cpu .state
-div-stays cpu = either (ltb (cpu .y) (cpu .x * 2)) (divided cpu _ _) (divided cpu _ _) refl refl
+div-stays cpu = go (ltb (cpu .y) (cpu .x * 2)) (wordOf (cpu .a) (cpu .y)) (cpu .x)
+  where
+    go : (t : Bool) (w x : ℕ)
+        → cond t (divided cpu (w / x % 256) (w % x)) (divided cpu (255 - (w - x * 512) / (256 - x)) (x + (w - x * 512) % (256 - x))) .state
+        ≡ cpu .state
+    go true w x = refl
+    go false w x = refl
 
 daa-stays : (cpu : Processor) → daaOf cpu .state ≡ cpu .state
 daa-stays cpu = either (cpu .psw .c || ltb 0x99 (cpu .a)) _ cpu refl refl
