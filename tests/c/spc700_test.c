@@ -1,6 +1,7 @@
-/* The static library as a C program sees it: steps, runs, wakes, counts and texts, every refusal of these calls, and that a refused call changes
- * nothing. (The calls on SPC files are tried by tests/files, the comparison by tests/differences, blanking by tests/blanking.) Prints a
- * line for each check and a last line that counts them; exit status 0 only if all hold. tests/exports compiles and runs it. */
+/* The static library as a C program sees it: steps, runs, wakes, counts and texts, every refusal of these calls, and that a refused call
+ * changes nothing. (The calls on SPC files are tried by tests/files, the comparison by tests/differences, blanking by tests/blanking, and
+ * runs in parts by tests/waking.) Prints a line for each check and a last line that counts them; exit status 0 only if all hold.
+ * tests/exports compiles and runs it. */
 #include "spc700.h"
 
 /* Declared, not included: a compiler for x86-64 may come without the headers of a C library for it. */

@@ -1,5 +1,5 @@
--- What a call answers at the bytes: refusal 6 where the registers are no whole record, and else what the engine's answer, handed back, says;
--- and the one number of a call that fills what it is lent.
+-- What a call answers at the bytes: refusal 6 where the registers are no whole record, and else what the engine's answer, handed back,
+-- says; and the one number of a call that fills what it is lent.
 -- Assumes nothing.
 use Prim.Native.Nat.{ℕ}
 use mathlib.Core.Path.{_≡_, refl, sym, _∙_}

@@ -51,8 +51,8 @@ written-again file bytes z =
     rw (record-to-whole-and-back (readOf file .cpu)) (spc.read-then-write file bytes ∙ ap (λ (n : ℕ). filled n file) z)
 
 module _ (file registers : List ℕ) where
-  -- Reading a file, and then writing into it the registers' bytes as they are by then and the memory that the file has, is accepted where the
-  -- read is, and changes nothing,
+  -- Reading a file, and then writing into it the registers' bytes as they are by then and the memory that the file has, is accepted where
+  -- the read is, and changes nothing,
   pub read-then-write : Bytes file → fileReadCall file registers .answer ≡ 0
       → fileWriteCall (fileReadCall file registers .left) (memoryOf file) file ≡ filled 0 file
   read-then-write bytes e = go (ℕ-discrete (length registers) 8) (ℕ-discrete (refusalOf file) 0)

@@ -42,8 +42,8 @@ identity-at-bytes edition budget registers w bytes whole rest z =
     let not-awake : isAwake (cpu .state) ≡ false = awake-is-zero (cpu .state) ∙ rw number (ne-eqb _ _ rest) in
     rw (whole-to-record-and-back registers bytes whole, number) at (rests edition budget cpu w not-awake z)
 
--- Let a run answer a stop other than 0, as include/spc700.h takes it out of the number. Called again with the registers, memory and maps that
--- it left, with any budget and in either edition, it answers that stop and 0 steps, and changes nothing.
+-- Let a run answer a stop other than 0, as include/spc700.h takes it out of the number. Called again with the registers, memory and maps
+-- that it left, with any budget and in either edition, it answers that stop and 0 steps, and changes nothing.
 module _ (edition budget : ℕ) (registers : List ℕ) (w : World) (word : budget < 2 ^ 32) where
   abbrev pub first : Called
   first = runCall edition budget registers w

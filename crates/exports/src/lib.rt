@@ -1,6 +1,6 @@
-// The library that other programs link: C's view of the engine and of a wake, the count of marks, the differences between two memories, blanked images,
-// the listing, SPC files and state records, which include/spc700.h documents. Every call takes its slices as pointer and length, has no
-// condition, and answers one number.
+// The library that other programs link: C's view of the engine and of a wake, the count of marks, the differences between two memories,
+// blanked images, the listing, SPC files and state records, which include/spc700.h documents. Every call takes its slices as pointer and
+// length, has no condition, and answers one number.
 ghost use mathlib.Core.Path.{_≡_};
 ghost use lib.ListN.{length};
 ghost use Rattle.listing.specs.Instruction.{listedOf};
@@ -32,8 +32,8 @@ fn hand_back(registers: &mut [u8], ran: Ran) -> u64
     packed(0, ran.stop, ran.steps)
 }
 
-// One step in an edition, which is a number, or none of a record that is not awake. Refusals: 6 registers that are not eight bytes with 0, 1
-// or 2 as the last, 9 an edition that is neither 1 nor 2, 1 memory that is not 65,536 bytes, 2 a map that is not 8,192 bytes.
+// One step in an edition, which is a number, or none of a record that is not awake. Refusals: 6 registers that are not eight bytes with 0,
+// 1 or 2 as the last, 9 an edition that is neither 1 nor 2, 1 memory that is not 65,536 bytes, 2 a map that is not 8,192 bytes.
 #[no_mangle]
 pub extern "C" fn spc700_step(
     registers: &mut [u8],

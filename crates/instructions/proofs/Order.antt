@@ -128,6 +128,7 @@ pub reads-first : (edition : Edition) (cpu : Processor) (opcode : ℕ) → opcod
     → ReadsFirst (afterOpcode edition cpu opcode)
 unfolding readFor
 reads-first edition cpu opcode h other =
-    reads-then (λ (o : Operands). o .cpu .state ≡ cpu .state) (gatherOf edition (rowOf opcode .mode) opcode (onward cpu)) (λ o. record { opcode = opcode; operands = o }) (λ b. finishOf (madeOf b))
+    reads-then (λ (o : Operands). o .cpu .state ≡ cpu .state)
+    (gatherOf edition (rowOf opcode .mode) opcode (onward cpu)) (λ o. record { opcode = opcode; operands = o }) (λ b. finishOf (madeOf b))
     (mode-reads edition (rowOf opcode .mode) opcode (onward cpu))
     (λ o. let e = effectOf (rowOf opcode .operation) opcode o in finish-reads-first (e .cpu) (e .stores) (e .taken) (row-not-both opcode h other o))

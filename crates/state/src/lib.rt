@@ -1,4 +1,5 @@
-// The register record as bytes: as seven, A X Y SP PC-low PC-high PSW, which hold no state, and as eight, with the number of the state last.
+// The register record as bytes: as seven, A X Y SP PC-low PC-high PSW, which hold no state, and as eight, with the number of the state
+// last.
 ghost use mathlib.Core.Path.{_≡_};
 ghost use lib.ListN.{length};
 ghost use Rattle.state.specs.Registers.{registersOf, bytesOf, isWhole, wholeOf, wholeBytesOf};
