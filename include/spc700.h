@@ -94,7 +94,7 @@ extern "C" {
  * writes      a map, too. The step marks each address that it stores to. No call clears a mark: start with maps of zeros.
  *
  * Answers the stop, and as the number the steps taken: 1, or 0 where the registers were not awake. SLEEP and STOP count as steps. No later
- * call goes on behind them until spc700_wake was called.
+ * call goes on behind them until spc700_wake was called: that the next one goes on behind SLEEP, as it did once, is withdrawn.
  * Refusals: 6, 9, 1, 2. */
 uint64_t spc700_step(
     uint8_t *registers, size_t registers_length,
