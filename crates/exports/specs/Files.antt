@@ -12,7 +12,7 @@ use borrow.Author.Tests.{eq-eqb, ne-eqb}
 use Rattle.laws.specs.Bytes.{Bytes}
 use Rattle.laws.specs.Filled.{Filled, filled}
 use Rattle.processor.specs.declared.Processor.{Processor}
-use Rattle.state.specs.Registers.{bytesOf, wholeBytesOf, isWhole, wholeOf}
+use Rattle.state.specs.Registers.{wholeBytesOf, isWhole, wholeOf}
 use Rattle.state.specs.Theorems.{record-to-whole-and-back, bytes-whole, whole-to-record-and-back}
 use Rattle.spc_file.specs.Calls.{refusalOf, fileRead, readOf, memoryOf, writeOf}
 use Rattle.spc_file.specs.Theorems as spc
@@ -21,10 +21,6 @@ use Rattle.conversion.specs.Theorems as conversion
 use Rattle.exports.specs.Calls.{packed, numbered, fileReadCall, fileWriteCall, fileFromRecordCall, recordFromFileCall}
 
 -- ---- the calls, past the test of the registers
-
-eight-bytes : (cpu : Processor) → length (wholeBytesOf cpu) ≡ 8
-unfolding wholeBytesOf bytesOf
-eight-bytes cpu = refl
 
 module _ (file registers : List ℕ) where
   read-refused : length registers ≡ 8 → (refusalOf file ≡ 0 → ⊥) → fileReadCall file registers ≡ filled (packed (refusalOf file) 0 0) registers
@@ -50,6 +46,11 @@ written-again : (file : List ℕ) → Bytes file → refusalOf file ≡ 0
 written-again file bytes z =
     rw (record-to-whole-and-back (readOf file .cpu)) (spc.read-then-write file bytes ∙ ap (λ (n : ℕ). filled n file) z)
 
+-- a call that is refused, and leaves what it was lent as it was
+pub record Refused (o : Filled ℕ) (lent : List ℕ) : Type 0 where
+  pub refused : o .answer ≡ 0 → ⊥
+  pub stays : o .left ≡ lent
+
 module _ (file registers : List ℕ) where
   -- Reading a file, and then writing into it the registers' bytes as they are by then and the memory that the file has, is accepted where
   -- the read is, and changes nothing,
@@ -66,18 +67,19 @@ module _ (file registers : List ℕ) where
           let is : readOf file ≡ fileRead 0 cpu = rw (eq-eqb _ _ z) in
           rw (read-accepted file registers s is) (wrote file (wholeBytesOf cpu) (bytes-whole cpu) (memoryOf file) (written-again file bytes z))
 
-  -- and no more does a write behind a read that was refused: then the registers are what they were, and it is refused, too.
+  -- and no more does a write behind a read that was refused: it is refused, too, though it may be with another number.
   pub refused-both-times : (fileReadCall file registers .answer ≡ 0 → ⊥)
-      → fileWriteCall (fileReadCall file registers .left) (memoryOf file) file .left ≡ file
+      → Refused (fileWriteCall (fileReadCall file registers .left) (memoryOf file) file) file
   refused-both-times refused = go (ℕ-discrete (length registers) 8) (ℕ-discrete (refusalOf file) 0) (isWhole registers) refl
     where
       go : Dec (length registers ≡ 8) → Dec (refusalOf file ≡ 0) → (b : Bool) → isWhole registers ≡ b
-          → fileWriteCall (fileReadCall file registers .left) (memoryOf file) file .left ≡ file
-      go (no n) d b w = rw (ne-eqb _ _ n, ne-eqb _ _ n)
+          → Refused (fileWriteCall (fileReadCall file registers .left) (memoryOf file) file) file
+      go (no n) d b w = rw (ne-eqb _ _ n, ne-eqb _ _ n) (record { refused = λ e. omega arith; stays = refl })
       go (yes s) (yes z) b w = absurd (refused (rw (eq-eqb _ _ s, eq-eqb _ _ z)))
       go (yes s) (no n) true w =
           rw (read-refused file registers s n, wrote file registers w (memoryOf file) (spc.refused-file (wholeOf registers) (memoryOf file) file n))
-      go (yes s) (no n) false w = rw (read-refused file registers s n, w)
+          (record { refused = λ e. n (none-refused (refusalOf file) e); stays = refl })
+      go (yes s) (no n) false w = rw (read-refused file registers s n, w) (record { refused = λ e. omega arith; stays = refl })
 
 -- what the calls give back of a file
 pub record GivesBack (registers memory file : List ℕ) : Type 0 where
