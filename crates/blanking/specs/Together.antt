@@ -1,16 +1,14 @@
 -- Maps put together, for an image that is to serve several runs, or to keep more than a run reads.
 -- Assumes nothing.
-use Prim.Native.Nat.{ℕ, zero, suc, _/_, _%_, _^_}
+use Prim.Native.Nat.{ℕ, zero, suc, _/_, _%_}
 use mathlib.Core.Path.{_≡_, refl, ap, sym, _∙_}
 use mathlib.Core.Bool.{_||_, or-true}
 use mathlib.Core.List.{List, [], _∷_}
 use native.Mathlib.Omega.{arith}
 use lib.Bits.{bitOr, or-zero-l, or-zero-r}
-use lib.Dec.{eqb}
 use lib.ListN.{length, getD}
-use Rattle.laws.specs.Table.{same-grid}
 use Rattle.marks.specs.Maps.{isMarked}
-use Rattle.marks.proofs.Laws.{or-bit}
+use Rattle.marks.proofs.Laws.{either-bit}
 use Rattle.memory.specs.Theorems.{Keeps}
 use Rattle.editions.specs.declared.Edition.{Edition}
 use Rattle.processor.specs.declared.Processor.{Processor}
@@ -35,11 +33,6 @@ length-together : (map other : List ℕ) → length map ≡ length other → len
 length-together [] other e = sym e
 length-together (a ∷ map) [] e = refl
 length-together (a ∷ map) (b ∷ other) e = ap suc (length-together map other (omega arith))
-
-either-bit : (x y j : ℕ) → eqb (bitOr x y / 2 ^ j % 2) 1 ≡ (eqb (x / 2 ^ j % 2) 1 || eqb (y / 2 ^ j % 2) 1)
-either-bit x y j =
-    rw or-bit
-    (same-grid 2 2 (λ m n. eqb (bitOr m n) 1) (λ m n. eqb m 1 || eqb n 1) refl (x / 2 ^ j % 2) (y / 2 ^ j % 2) (omega arith) (omega arith))
 
 module _ (map other : List ℕ) where
   -- Maps put together mark what either of them marks,

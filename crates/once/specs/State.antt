@@ -1,4 +1,4 @@
--- Each function between the register record and its bytes, seven or eight, has one outcome.
+-- Each function between the register record and its bytes, seven or eight, and a number of four bytes have one outcome.
 -- Assumes nothing.
 use Rattle.state.proofs as state
 use Rattle.once.specs.Law.{One, Answers, first}
@@ -18,3 +18,6 @@ whole-once = record { same = answers }
 
 pub set-whole-once : One state.set_whole.Reads.Post (λ κ. first)
 set-whole-once = record { same = leaves }
+
+pub number-once : Answers state.number.Reads.Post
+number-once = record { same = answers }

@@ -1,7 +1,6 @@
 // The runner: a run on a state record, and the report of it.
 mod lines;
 
-ghost use Prim.Native.Nat.{_+_, _*_};
 ghost use mathlib.Core.Path.{_≡_};
 ghost use mathlib.Core.Bool.{true};
 ghost use mathlib.Core.List.{[]};
@@ -20,19 +19,12 @@ pub struct Report {
     pub closing: Line,
 }
 
-// The number that four bytes hold, low first.
-fn number(b0: u8, b1: u8, b2: u8, b3: u8) -> u32
-    ensures { λ r. ⌜ r ≡ b0 + 256 * b1 + 65536 * b2 + 16777216 * b3 ⌝ }
-{
-    b0 as u32 + 256 * b1 as u32 + 65536 * b2 as u32 + 16777216 * b3 as u32
-}
-
 // The budget, which stands behind the edition.
 fn budget(input: &[u8]) -> u32
     requires { ⌜ length (now input) ≡ 65548 ⌝ }
     ensures { λ r. ⌜ r ≡ budgetOf (now (input .entry)) ⌝ }
 {
-    number(input[1], input[2], input[3], input[4])
+    state::number(input[1], input[2], input[3], input[4])
 }
 
 // Runs in an edition from clear maps, and reports.

@@ -1,5 +1,6 @@
 // The register record as bytes: as seven, A X Y SP PC-low PC-high PSW, which hold no state, and as eight, with the number of the state
-// last.
+// last. And a number as four bytes, as the programs take a budget.
+ghost use Prim.Native.Nat.{_+_, _*_};
 ghost use mathlib.Core.Path.{_≡_};
 ghost use lib.ListN.{length};
 ghost use Rattle.state.specs.Registers.{registersOf, bytesOf, isWhole, wholeOf, wholeBytesOf};
@@ -62,4 +63,11 @@ pub fn set_whole(bytes: &mut [u8], cpu: Processor)
     let state = cpu.state;
     set_registers(&mut bytes[0..7], cpu);
     bytes[7] = waking::number_of(state);
+}
+
+// The number that four bytes hold, low first.
+pub fn number(b0: u8, b1: u8, b2: u8, b3: u8) -> u32
+    ensures { λ r. ⌜ r ≡ b0 + 256 * b1 + 65536 * b2 + 16777216 * b3 ⌝ }
+{
+    b0 as u32 + 256 * b1 as u32 + 65536 * b2 as u32 + 16777216 * b3 as u32
 }

@@ -1,30 +1,9 @@
 -- A session's answer is never longer than the buffer it was given into, so the part that is written out is a part of it.
 -- Assumes nothing.
-use Prim.Native.Nat.{ℕ, _≤_}
-use mathlib.Core.Path.{_≡_, sym}
-use mathlib.Core.Bool.{Bool, true, false, cond}
-use mathlib.Core.List.{List}
-use native.Mathlib.Omega.{arith}
-use lib.Dec.{leb}
-use lib.ListN.{length, take, length-append}
-use lib.Seq.{length-take-le}
 use borrow.Author.Needs.{needs}
-use Rattle.text.specs.Given.{Wanted, says, refuses, accepted, refused, laidInto, Given}
-use Rattle.text.specs.declared.Written.{Written}
+use Rattle.text.proofs.Laws.{given-within, given-part}
 use Rattle.list.proofs.main.Statement.{statement}
 use Rattle.list.proofs.main.Tie as tie
-
--- the answer's length, and the part of the buffer that it names
-given-within : (w : Wanted) (before after : List ℕ) (r : Written) → Given w before after r → r .length ≤ length after
-given-within (refuses n) before after r g = rw (g .answer) (omega arith)
-given-within (says t) before after r g = rw (g .answer, g .buffer) (go (leb (length t) (length before)))
-  where
-    go : (b : Bool) → cond b (accepted (length t)) (refused 3) .length ≤ length (cond b (laidInto before t) before)
-    go true = simp length-append (omega arith)
-    go false = omega arith
-
-given-part : (w : Wanted) (before after : List ℕ) (r : Written) → Given w before after r → r .length ≡ length (take (r .length) after)
-given-part w before after r g = sym (length-take-le (r .length) after (given-within w before after r g))
 
 slice-aggregate-read-full : tie.Need-slice-aggregate-read-full
 slice-aggregate-read-full c = search needs
