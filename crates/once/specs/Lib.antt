@@ -19,6 +19,9 @@ pub mod Effects
 pub mod Engine
 pub mod Differences
 pub mod Blanking
+pub mod Watch
+pub mod Auditor
+pub mod Surveyor
 pub mod OpcodeData
 pub mod Listing
 pub mod Exports

@@ -1,0 +1,4 @@
+pub mod Giving
+pub mod Comparing
+pub mod Marking
+pub mod Parts

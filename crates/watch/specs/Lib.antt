@@ -1,0 +1,5 @@
+pub mod Devices
+pub mod Calls
+pub mod Marks
+pub mod Bits
+pub mod Theorems
