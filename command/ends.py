@@ -1,4 +1,4 @@
-"""The two ways in which a command ends without an answer, each with words that say why."""
+"""The ways in which a command ends without an answer, each with words that say why."""
 
 
 class BadArgument(Exception):
@@ -6,4 +6,8 @@ class BadArgument(Exception):
 
 
 class Refused(Exception):
-    """A file is not what it should be, or something could not be done: exit status 1."""
+    """A file is not what it should be, or cannot be written: exit status 1, once the other files are done."""
+
+
+class Failed(Exception):
+    """A program could not be built or run, so there is no answer for any file: exit status 1 at once."""

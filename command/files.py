@@ -2,6 +2,7 @@
 import os
 
 from ends import BadArgument, Refused
+from texts import count
 
 SIGNATURE = b"SNES-SPC700 Sound File Data v0.30"
 ANY_VERSION = b"SNES-SPC700 Sound File Data"
@@ -53,7 +54,7 @@ class Image:
 
 def check(name):
     """Ends where a file is not there or cannot be read."""
-    if not os.path.lexists(name) or not os.path.exists(name):
+    if not os.path.exists(name):
         raise BadArgument(f"there is no file '{name}'")
     if os.path.isdir(name):
         raise BadArgument(f"'{name}' is a folder")
@@ -61,20 +62,20 @@ def check(name):
         raise BadArgument(f"'{name}' cannot be read")
 
 
-def read(name, most):
-    """The first bytes of a file, and one more where it has more."""
+def read(name, most, most_of_spc=0):
+    """The first bytes of a file, and one more where it has more; of an SPC file so many more. It is read once, since it may be a pipe."""
     check(name)
     try:
         with open(name, "rb") as file:
-            return file.read(most + 1)
+            data = file.read(most + 1)
+            return data + file.read(most_of_spc) if data.startswith(SIGNATURE) else data
     except OSError as error:
         raise Refused(f"'{name}' cannot be read: {error.strerror}") from None
 
 
 def content(name):
     """The bytes of a file, as far as they have to be known to tell what it is: of an SPC file all."""
-    data = read(name, SPC)
-    return read(name, SPC + MOST_BEHIND) if data.startswith(SIGNATURE) else data
+    return read(name, SPC, MOST_BEHIND)
 
 
 def fault_of(name, data):
@@ -89,7 +90,7 @@ def fault_of(name, data):
         return None
     if data.startswith(ANY_VERSION):
         return f"'{name}' is an SPC file of another version: '{SIGNATURE.decode()}' is expected at its beginning"
-    length = "is empty" if not data else f"has {len(data):,} bytes" if len(data) <= SPC else f"has more than {SPC:,} bytes"
+    length = "is empty" if not data else f"has {count(len(data), 'byte', 'bytes')}" if len(data) <= SPC else f"has more than {SPC:,} bytes"
     return (
         f"'{name}' is neither an SPC file nor a state record: it {length}, where an SPC file begins with '{SIGNATURE.decode()}' and has "
         "66,048 or more, and a state record has 65,543"

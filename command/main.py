@@ -4,7 +4,7 @@ import sys
 
 from blank import blank
 from compare import compare
-from ends import BadArgument, Refused
+from ends import BadArgument, Failed, Refused
 from listing import listing
 from programs import ROOT, say
 from report import report
@@ -59,7 +59,7 @@ def main(words):
     except BadArgument as error:
         say(error)
         return 2
-    except Refused as error:
+    except (Refused, Failed) as error:
         sys.stdout.flush()
         say(error)
         return 1

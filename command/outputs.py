@@ -18,6 +18,8 @@ def check(name, given, force):
     folder = os.path.dirname(name) or "."
     if not os.path.isdir(folder):
         raise Refused(f"'{name}' cannot be written: there is no folder '{folder}'")
+    if is_plain(name) and not os.access(os.path.dirname(os.path.realpath(name)), os.W_OK):
+        raise Refused(f"'{name}' cannot be written: there is no right to write into its folder")
     for other in given:
         if os.path.exists(name) and os.path.exists(other) and os.path.samefile(name, other):
             raise Refused(f"'{name}' is the same file as '{other}': it is not written over")

@@ -7,7 +7,7 @@ import subprocess
 import sys
 import time
 
-from ends import Refused
+from ends import Failed
 
 ROOT = pathlib.Path(__file__).resolve().parent.parent
 RUN = str(ROOT / "tools" / "program")
@@ -42,21 +42,24 @@ def say(words):
 
 
 def build(*names):
-    """Proves and builds the programs among these that are not current, and says a line for each crate as it is done."""
+    """Makes the programs among these that are not current."""
     if not shutil.which("rt"):
-        raise Refused("there is no rt, the command of the Rattle kit, on PATH")
-    names = [name for name in names if name not in CURRENT]
+        raise Failed("there is no rt, the command of the Rattle kit, on PATH")
+    missing = [name for name in names if name not in CURRENT and not is_current(path(name))]
+    if missing:
+        make(missing)
     CURRENT.update(names)
-    missing = [name for name in names if not is_current(path(name))]
-    if not missing:
-        return
+
+
+def make(missing):
+    """Proves and builds programs, and says a line for each crate as it is done."""
     say(f"proving and building {' and '.join(missing)}; this may take some minutes")
     started = time.time_ns()
     printed, status = checked(missing)
     for name in missing:
         if status or not os.access(path(name), os.X_OK):
             sys.stderr.write(printed)
-            raise Refused(f"{name} could not be built")
+            raise Failed(f"{name} could not be built")
         # rt leaves a program alone that need not change; the time is that of the start, so that what was edited since then is newer
         os.utime(path(name), ns=(started, started))
 
@@ -78,7 +81,7 @@ def answer(name, given):
     build(name)
     done = subprocess.run([RUN, name], input=given, stdout=subprocess.PIPE)
     if done.returncode:
-        raise Refused(f"{name} could not be run: it ended with status {done.returncode}")
+        raise Failed(f"{name} could not be run: it ended with status {done.returncode}")
     return done.stdout
 
 
@@ -99,7 +102,7 @@ class Conversation:
             answered = b""
         if len(answered) != len(packet):
             said = answered.decode(errors="replace").strip() or f"it ended with status {self.process.wait()}"
-            raise Refused(f"{self.name} could not be run: {said}")
+            raise Failed(f"{self.name} could not be run: {said}")
         return answered
 
     def end(self):

@@ -1,6 +1,8 @@
 """The words behind a command: options, which may stand anywhere among them, and numbers, in decimal or with 0x."""
 from ends import BadArgument
 
+DECIMAL, HEXADECIMAL = "0123456789", "0123456789abcdefABCDEF"
+
 
 class Number:
     """A number that an option or a place takes, from 0 up to a limit. `called` is what an error calls it."""
@@ -10,10 +12,11 @@ class Number:
 
     def taken(self, word):
         """The number that a word is."""
-        digits, base = (word[2:], 16) if word[:2] in ("0x", "0X") else (word, 10)
-        allowed = "0123456789abcdef" if base == 16 else "0123456789"
-        if digits and all(digit in allowed for digit in digits.lower()):
-            value = int(digits, base)
+        digits, base, allowed = (word[2:], 16, HEXADECIMAL) if word[:2] in ("0x", "0X") else (word, 10, DECIMAL)
+        if digits and all(digit in allowed for digit in digits):
+            # Python makes no number of thousands of digits; no limit here has more than ten
+            digits = digits.lstrip("0") or "0"
+            value = int(digits, base) if len(digits) <= 10 else self.limit + 1
             if value <= self.limit:
                 return value
         raise BadArgument(f"'{word}' is no {self.called}: 0 to {self.limit}, in decimal or with 0x in hexadecimal, are")
@@ -59,7 +62,7 @@ BYTE = Number("byte", 255)
 def address(word):
     """An address in one to four hexadecimal digits, with or without 0x."""
     digits = word[2:] if word[:2] in ("0x", "0X") else word
-    if not 1 <= len(digits) <= 4 or any(digit not in "0123456789abcdefABCDEF" for digit in digits):
+    if not 1 <= len(digits) <= 4 or any(digit not in HEXADECIMAL for digit in digits):
         raise BadArgument(f"'{word}' is no address: one to four hexadecimal digits are, as 0300")
     return int(digits, 16)
 
