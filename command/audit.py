@@ -1,10 +1,10 @@
 """Runs and blanked images, made by the proved program `audit`. The layout of its packets is said in crates/auditor/specs/Packet.antt and
 Audit.antt; here bytes are put into their places and taken out of them."""
-import sys
 import time
 
 from files import MAP, MEMORY
 from programs import Conversation
+from progress import Progress
 
 HEAD = 64
 AT_REGISTERS, AT_ANSWER, AT_DEVICES = 6, 14, 35
@@ -13,7 +13,6 @@ AT_IMAGE = AT_MEMORY + MEMORY
 AT_READS = AT_IMAGE + MEMORY
 AT_WRITES = AT_READS + MAP
 AT_KEPT = AT_WRITES + MAP
-LENGTH = AT_KEPT + MAP
 CLEAR = bytes(MAP)
 AWAKE = b"\x00"
 # how long a part of a run is to take, so that the progress is seen to move; the first part is short, to find out
@@ -57,9 +56,14 @@ class Answer:
         return self.number(4)
 
     @property
+    def device_bytes(self):
+        """The same as devices, as it stands in the packet."""
+        return self.piece(AT_DEVICES, 2)
+
+    @property
     def devices(self):
         """The device addresses that some step read."""
-        bits = int.from_bytes(self.piece(AT_DEVICES, 2), "little")
+        bits = int.from_bytes(self.device_bytes, "little")
         return [0xF0 + j for j in range(16) if bits >> j & 1]
 
     @property
@@ -85,6 +89,13 @@ class Answer:
         return self.piece(AT_KEPT, MAP)
 
 
+def packet(memory, image, registers=bytes(8), edition=1, budget=0, byte=0, devices=bytes(2), reads=CLEAR, writes=CLEAR, kept=CLEAR):
+    """A packet as the program takes it. Without more words it asks for a run of no steps, from any registers and with clear maps."""
+    head = bytes([edition]) + budget.to_bytes(4, "little") + bytes([byte]) + registers
+    head += bytes(AT_DEVICES - len(head)) + devices
+    return head + bytes(HEAD - len(head)) + memory + image + reads + writes + kept
+
+
 class Run:
     """What a run in parts comes to: the last part's answer, and the steps of all."""
 
@@ -98,42 +109,37 @@ class Audit:
     def __init__(self):
         self.conversation = None
 
-    def asked(self, edition, budget, byte, registers, devices, memory, image, maps):
-        """The answer to a packet. The maps are those of what was read, of what was stored, and of what is to be kept."""
-        head = bytes([edition]) + budget.to_bytes(4, "little") + bytes([byte]) + registers
-        head += bytes(AT_DEVICES - len(head)) + devices
+    def asked(self, *parts, **more):
+        """The answer to a packet."""
         self.conversation = self.conversation or Conversation("audit")
-        return Answer(self.conversation.answer(head + bytes(HEAD - len(head)) + memory + image + b"".join(maps)))
+        return Answer(self.conversation.answer(packet(*parts, **more)))
 
-    def run(self, registers, memory, steps, edition, byte=0, kept=CLEAR, progress=None):
-        """A run from clear maps of at most so many steps, and the image blanked by what it read and by what the kept map marks.
+    def run(self, image, steps, edition, byte=0, kept=CLEAR):
+        """A run of a file from clear maps, of at most so many steps, and its image blanked by what it read and by what the kept map marks.
 
         It goes in parts, each from what the part before it left: that is one run (crates/auditor/specs/Theorems.antt)."""
-        answer = self.asked(edition, 0, byte, registers + AWAKE, bytes(2), memory, memory, (CLEAR, CLEAR, kept))
+        same = {"edition": edition, "byte": byte, "kept": kept}
+        answer = self.asked(image.memory, image.memory, image.registers + AWAKE, **same)
         done, part = 0, FIRST_PART
-        while done < steps and answer.stop == 0:
-            began = time.monotonic()
-            devices = answer.piece(AT_DEVICES, 2)
-            maps = answer.reads, answer.writes, kept
-            answer = self.asked(edition, min(part, steps - done), byte, answer.registers, devices, answer.memory, memory, maps)
-            done += answer.steps
-            took = max(time.monotonic() - began, 0.001)
-            part = min(max(int(part * min(SECONDS_A_PART / took, 8)), 1), MOST)
-            if progress:
-                progress.show(done, steps)
-        if progress:
-            progress.clear()
+        with Progress(steps) as progress:
+            while done < steps and answer.stop == 0:
+                began = time.monotonic()
+                on = {"registers": answer.registers, "devices": answer.device_bytes, "reads": answer.reads, "writes": answer.writes}
+                answer = self.asked(answer.memory, image.memory, budget=min(part, steps - done), **on, **same)
+                done += answer.steps
+                part = next_part(part, time.monotonic() - began)
+                progress.show(done)
         return Run(answer, done)
 
     def blanked(self, memory, map_, byte):
-        """A memory with the byte wherever a map has no mark: a run of no steps, from any registers, blanks by the kept map alone."""
-        return self.asked(1, 0, byte, bytes(8), bytes(2), memory, memory, (CLEAR, CLEAR, map_)).image
+        """A memory with the byte wherever a map has no mark: a run of no steps blanks by the kept map alone."""
+        return self.asked(memory, memory, byte=byte, kept=map_).image
 
     def together(self, maps):
         """Maps put together: a run of no steps adds a read map to the kept one."""
         kept = CLEAR
         for map_ in maps:
-            kept = self.asked(1, 0, 0, bytes(8), bytes(2), bytes(MEMORY), bytes(MEMORY), (map_, CLEAR, kept)).kept
+            kept = self.asked(bytes(MEMORY), bytes(MEMORY), reads=map_, kept=kept).kept
         return kept
 
     def end(self):
@@ -141,25 +147,6 @@ class Audit:
             self.conversation.end()
 
 
-class Progress:
-    """A line on standard error that says how far a run is, where that is a terminal."""
-
-    def __init__(self):
-        self.shown = False
-        self.began = time.monotonic()
-
-    def show(self, done, steps):
-        spent = time.monotonic() - self.began
-        if not sys.stderr.isatty() or spent < 2 * SECONDS_A_PART:
-            return
-        speed = done / spent
-        left = (steps - done) / speed if speed else 0
-        line = f"{done:,} of {steps:,} steps, {speed:,.0f} a second, {left:,.0f} s left at most"
-        sys.stderr.write(f"\r\x1b[K{line}")
-        sys.stderr.flush()
-        self.shown = True
-
-    def clear(self):
-        if self.shown:
-            sys.stderr.write("\r\x1b[K")
-            sys.stderr.flush()
+def next_part(part, took):
+    """How many steps the next part has, after so many took so many seconds."""
+    return min(max(int(part * min(SECONDS_A_PART / max(took, 0.001), 8)), 1), MOST)

@@ -2,7 +2,7 @@
 import files
 import outputs
 import survey
-from audit import Audit, Progress
+from audit import Audit
 from ends import BadArgument, Refused
 from programs import build
 from report import MANY_STEPS
@@ -65,11 +65,11 @@ def blank(words):
     steps, edition, byte = options.get("steps", MANY_STEPS), options.get("edition", 1), options.get("with", 0)
     build("audit", "survey")
     audit = Audit()
-    run = audit.run(image.registers, image.memory, steps, edition, byte, audit.together(maps), Progress())
+    run = audit.run(image, steps, edition, byte, audit.together(maps))
     whole = image.with_memory(run.answer.image)
     outputs.put(out, whole)
     back = written(out, whole)
-    again = audit.run(back.registers, back.memory, steps, edition, progress=Progress())
+    again = audit.run(back, steps, edition)
     audit.end()
     if not alike(run, again):
         raise Refused(f"'{out}' does not answer as '{name}' does: it is not to be handed out")

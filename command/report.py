@@ -5,7 +5,7 @@ import files
 import outputs
 import picture
 import survey
-from audit import Audit, Progress
+from audit import Audit
 from ends import BadArgument, Refused
 from programs import build, say
 from tags import tags
@@ -23,7 +23,7 @@ class Report:
 
     def __init__(self, audit, image, steps, edition):
         self.image, self.budget, self.edition = image, steps, edition
-        self.run = audit.run(image.registers, image.memory, steps, edition, progress=Progress())
+        self.run = audit.run(image, steps, edition)
         self.tags = tags(image)
         self.made_of = survey.marked(self.run.answer.reads)
         self.stored = survey.marked(self.run.answer.writes)
