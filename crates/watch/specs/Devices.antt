@@ -11,8 +11,8 @@ use Rattle.runs.specs.Run.{Progress}
 use Rattle.engine.specs.Entry.{countedStep}
 use Rattle.engine.specs.Provenance.{clear}
 
--- One step of a run by itself, from clear maps: its read map marks what this step reads, whatever the steps before it have stored. (A step
--- that stores and then reads the same address, as DBNZ may, has read it before, too.)
+-- One step of a run by itself, from clear maps: its read map marks what this step reads, whatever the steps before it have stored. That it
+-- marks all that the step reads, though DBNZ reads its displacement behind a store, is proved: Reads.
 abbrev pub alone : Edition → Processor → List ℕ → Outcome World (Progress Processor)
 alone edition cpu memory = perform (countedStep edition cpu) (world memory clear clear)
 

@@ -3,3 +3,4 @@ pub mod Calls
 pub mod Marks
 pub mod Bits
 pub mod Theorems
+pub mod Reads
