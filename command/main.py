@@ -48,12 +48,8 @@ def asked(words):
     return status
 
 
-def main(words):
-    """The exit status."""
-    if not sys.stdout or not sys.stderr:
-        return 1
-    for stream in (sys.stdout, sys.stderr):
-        stream.reconfigure(errors="backslashreplace")
+def ended(words):
+    """The exit status, and a line that says why where it is not 0. What was printed before goes out first."""
     try:
         return asked(words)
     except BadArgument as error:
@@ -66,8 +62,18 @@ def main(words):
     except KeyboardInterrupt:
         say("interrupted")
         return 130
+
+
+def main(words):
+    """The same, also where what is printed does not arrive."""
+    if not sys.stdout or not sys.stderr:
+        return 1
+    for stream in (sys.stdout, sys.stderr):
+        stream.reconfigure(errors="backslashreplace")
+    try:
+        return ended(words)
     except OSError as error:
-        # what was printed did not arrive: a full disk, or a reader that has gone, who need not be told
+        # a full disk, or a reader that has gone, who need not be told
         os.dup2(os.open(os.devnull, os.O_WRONLY), sys.stdout.fileno())
         if not isinstance(error, BrokenPipeError):
             say(f"the answer could not be printed: {error.strerror}")

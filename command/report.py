@@ -142,6 +142,8 @@ def report(words):
         raise BadArgument("report takes a file, or several: tangezult report FILE")
     if len(names) > 1 and wanted(options):
         raise BadArgument("--picture and --maps are of one file: report the files one by one")
+    if len(set(wanted(options).values())) < len(wanted(options)):
+        raise BadArgument("--picture and --maps are to write the same file")
     audit, told = Audit(), []
     for i, name in enumerate(names):
         try:

@@ -1,6 +1,7 @@
 """The command at the root, for the tests that ask it something and hold its answers against what they should be."""
 import atexit
 import fnmatch
+import os
 import pathlib
 import shutil
 import subprocess
@@ -47,7 +48,9 @@ class Answers:
 
 def asked(*words, **settings):
     """What the command does with these words."""
-    given = {"stdout": subprocess.PIPE, "stderr": subprocess.PIPE, "text": True, **settings}
+    # as people have it: Python's own settings, such as output that is not kept back, hide what happens to a full disk
+    plain = {name: value for name, value in os.environ.items() if not name.startswith("PYTHON")}
+    given = {"stdout": subprocess.PIPE, "stderr": subprocess.PIPE, "text": True, "env": plain, **settings}
     return subprocess.run([COMMAND, *map(str, words)], **given)
 
 

@@ -16,6 +16,12 @@ def addresses_in(map_):
     return [8 * i + bit for i, byte in enumerate(map_) if byte for bit in range(8) if byte >> bit & 1]
 
 
+def stretches_of(addresses):
+    """First and last of each stretch of some addresses, as long as it can be."""
+    firsts = [k for k in sorted(addresses) if k - 1 not in addresses]
+    return list(zip(firsts, [k for k in sorted(addresses) if k + 1 not in addresses]))
+
+
 def map_of(addresses):
     made = bytearray(MAP)
     for k in addresses:
