@@ -15,7 +15,8 @@ use Rattle.watch.specs.Calls.{watchedRun}
 use Rattle.watch.specs.declared.Watched.{Watched}
 use Rattle.blanking.specs.Calls.{blankedImage, unmarked}
 use Rattle.blanking.specs.Together.{together}
-use Rattle.auditor.specs.Packet.{bytesAt, fourBytes, editionIn, budgetIn, byteIn, registersIn, memoryIn, readsIn, writesIn}
+use Rattle.auditor.specs.Packet.{bytesAt, editionIn, budgetIn, byteIn, registersIn, memoryIn, readsIn, writesIn}
+use Rattle.state.specs.Registers.{fourBytes}
 use Rattle.auditor.specs.Packet.{devicesIn, imageIn, keptIn}
 
 -- 6 exactly if the packet is not 155,712 bytes, or its registers have a last byte that is no state's number; then 9 exactly if its edition

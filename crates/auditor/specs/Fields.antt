@@ -24,7 +24,8 @@ use Rattle.watch.specs.Devices.{devicesRead}
 use Rattle.blanking.specs.Calls.{blankedImage, unmarked}
 use Rattle.blanking.specs.Image.{length-blanked}
 use Rattle.blanking.specs.Together.{together-size}
-use Rattle.auditor.specs.Packet.{bytesAt, numberAt, fourBytes, editionIn, budgetIn, byteIn, registersIn, memoryIn, readsIn, writesIn}
+use Rattle.auditor.specs.Packet.{bytesAt, numberAt, editionIn, budgetIn, byteIn, registersIn, memoryIn, readsIn, writesIn}
+use Rattle.state.specs.Registers.{fourBytes}
 use Rattle.auditor.specs.Packet.{devicesIn, imageIn, keptIn}
 use Rattle.auditor.specs.Audit.{runOn, keepsOf, headOf, answered}
 use Rattle.auditor.specs.Inside.{worldIn, told}

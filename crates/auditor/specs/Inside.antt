@@ -17,7 +17,8 @@ use Rattle.watch.specs.Calls.{watchedRun}
 use Rattle.watch.specs.declared.Watched.{Watched}
 use Rattle.blanking.specs.Calls.{blankedImage, unmarked}
 use Rattle.blanking.specs.Together.{together}
-use Rattle.auditor.specs.Packet.{fourBytes, editionIn, budgetIn, byteIn, registersIn}
+use Rattle.auditor.specs.Packet.{editionIn, budgetIn, byteIn, registersIn}
+use Rattle.state.specs.Registers.{fourBytes}
 use Rattle.auditor.specs.Packet.{memoryIn, readsIn, writesIn, devicesIn, imageIn, keptIn}
 
 -- the memory and the maps that a packet holds

@@ -1,19 +1,16 @@
 -- Where things stand in a packet of 155,712 bytes. It is asked and answered in the same bytes.
-use Prim.Native.Nat.{ℕ, _+_, _*_, _/_, _%_}
-use mathlib.Core.List.{List, [], _∷_}
+use Prim.Native.Nat.{ℕ, _+_, _*_}
+use mathlib.Core.List.{List}
 use lib.ListN.{getD, take, drop}
 
 -- n bytes from a place on
 abbrev pub bytesAt : ℕ → ℕ → List ℕ → List ℕ
 bytesAt at n packet = take n (drop at packet)
 
--- A number of four bytes, low first, and its bytes.
+-- A number of four bytes, low first.
 abbrev pub numberAt : ℕ → List ℕ → ℕ
 numberAt at packet =
     getD packet at 0 + 256 * getD packet (at + 1) 0 + 65536 * getD packet (at + 2) 0 + 16777216 * getD packet (at + 3) 0
-
-abbrev pub fourBytes : ℕ → List ℕ
-fourBytes n = n % 256 ∷ n / 256 % 256 ∷ n / 65536 % 256 ∷ n / 16777216 ∷ []
 
 -- What is asked: the number of the edition, the budget, the byte to blank with;
 abbrev pub editionIn : List ℕ → ℕ

@@ -4,8 +4,8 @@ ghost use mathlib.Core.Path.{_≡_};
 ghost use mathlib.Core.List.{_++_, _∷_};
 ghost use lib.ListN.{length};
 ghost use lib.Seq.{sets};
-ghost use Rattle.state.specs.Registers.{wholeBytesOf};
-ghost use Rattle.auditor.specs.Packet.{fourBytes, devicesIn};
+ghost use Rattle.state.specs.Registers.{wholeBytesOf, fourBytes};
+ghost use Rattle.auditor.specs.Packet.{devicesIn};
 ghost use Rattle.auditor.specs.Inside.{told, Images, Maps, laidOut};
 use crate::part;
 use engine::Ran;
@@ -17,13 +17,8 @@ fn number(packet: &mut [u8], at: usize, n: u32)
     requires { ⌜ at + 4 ≤ length (now packet) ⌝ }
     ensures { λ r. ⌜ now (packet .exit) ≡ sets (now (packet .entry)) at (fourBytes n) ⌝ }
 {
-    let four = [
-        (n % 256) as u8,
-        (n / 256 % 256) as u8,
-        (n / 65536 % 256) as u8,
-        (n / 16777216) as u8,
-    ];
-    part::lay(packet, at, &four);
+    let end = at + 4;
+    state::set_number(&mut packet[at..end], n);
 }
 
 // Registers, stop and steps.

@@ -23,13 +23,13 @@ together [] other = other
 together (a ∷ map) [] = a ∷ map
 together (a ∷ map) (b ∷ other) = bitOr a b ∷ together map other
 
-get-together : (map other : List ℕ) (i : ℕ) → getD (together map other) i 0 ≡ bitOr (getD map i 0) (getD other i 0)
+pub get-together : (map other : List ℕ) (i : ℕ) → getD (together map other) i 0 ≡ bitOr (getD map i 0) (getD other i 0)
 get-together [] other i = sym (or-zero-l (getD other i 0))
 get-together (a ∷ map) [] i = sym (or-zero-r (getD (a ∷ map) i 0))
 get-together (a ∷ map) (b ∷ other) zero = refl
 get-together (a ∷ map) (b ∷ other) (suc i) = get-together map other i
 
-length-together : (map other : List ℕ) → length map ≡ length other → length (together map other) ≡ length map
+pub length-together : (map other : List ℕ) → length map ≡ length other → length (together map other) ≡ length map
 length-together [] other e = sym e
 length-together (a ∷ map) [] e = refl
 length-together (a ∷ map) (b ∷ other) e = ap suc (length-together map other (omega arith))

@@ -1,7 +1,9 @@
 // Blanked images: a chosen byte at every address that a map does not mark.
 ghost use mathlib.Core.Path.{_≡_};
+ghost use lib.ListN.{length};
 ghost use Rattle.laws.specs.Filled.{Fills};
 ghost use Rattle.blanking.specs.Calls.{refused, blankOf};
+ghost use Rattle.blanking.specs.Together.{together};
 
 // What blanking answers: refusal 0 and how many addresses were given the byte; or the refusal and 0.
 pub struct Blanked {
@@ -42,5 +44,17 @@ pub fn blank(memory: &mut [u8], map: &[u8], byte: u8) -> Blanked
     Blanked {
         refusal: 0,
         blanked,
+    }
+}
+
+// Puts a map together with another, byte by byte: for an image that is to keep what either marks.
+pub fn join(map: &[u8], other: &mut [u8])
+    requires { ⌜ length (now map) ≡ length (now other) ⌝ }
+    ensures { λ r. ⌜ now (other .exit) ≡ together (now (map .entry)) (now (other .entry)) ⌝ }
+{
+    let mut i = 0;
+    while i < map.len() {
+        other[i] = map[i] | other[i];
+        i += 1;
     }
 }

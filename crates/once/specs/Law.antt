@@ -41,6 +41,33 @@ fifth e = now (e .1 .1 .1 .1 .0)
 abbrev pub sixth : {A B C D E F : Type 0} → A × (B × (C × (D × (E × (Slice × F))))) → List ℕ
 sixth e = now (e .1 .1 .1 .1 .1 .0)
 
+abbrev pub seventh : {A B C D E F G : Type 0} → A × (B × (C × (D × (E × (F × (Slice × G)))))) → List ℕ
+seventh e = now (e .1 .1 .1 .1 .1 .1 .0)
+
+abbrev pub eighth : {A B C D E F G H : Type 0} → A × (B × (C × (D × (E × (F × (G × (Slice × H))))))) → List ℕ
+eighth e = now (e .1 .1 .1 .1 .1 .1 .1 .0)
+
+abbrev pub ninth : {A B C D E F G H I : Type 0} → A × (B × (C × (D × (E × (F × (G × (H × (Slice × I)))))))) → List ℕ
+ninth e = now (e .1 .1 .1 .1 .1 .1 .1 .1 .0)
+
+abbrev pub tenth : {A B C D E F G H I J : Type 0} → A × (B × (C × (D × (E × (F × (G × (H × (I × (Slice × J))))))))) → List ℕ
+tenth e = now (e .1 .1 .1 .1 .1 .1 .1 .1 .1 .0)
+
+abbrev pub eleventh : {A B C D E F G H I J K : Type 0} → A × (B × (C × (D × (E × (F × (G × (H × (I × (J × (Slice × K)))))))))) → List ℕ
+eleventh e = now (e .1 .1 .1 .1 .1 .1 .1 .1 .1 .1 .0)
+
+abbrev pub twelfth : {A B C D E F G H I J K L : Type 0} → A × (B × (C × (D × (E × (F × (G × (H × (I × (J × (K × (Slice × L))))))))))) → List ℕ
+twelfth e = now (e .1 .1 .1 .1 .1 .1 .1 .1 .1 .1 .1 .0)
+
+abbrev pub thirteenth : {A B C D E F G H I J K L M : Type 0} → A × (B × (C × (D × (E × (F × (G × (H × (I × (J × (K × (L × (Slice × M)))))))))))) → List ℕ
+thirteenth e = now (e .1 .1 .1 .1 .1 .1 .1 .1 .1 .1 .1 .1 .0)
+
+abbrev pub fourteenth : {A B C D E F G H I J K L M N : Type 0} → A × (B × (C × (D × (E × (F × (G × (H × (I × (J × (K × (L × (M × (Slice × N))))))))))))) → List ℕ
+fourteenth e = now (e .1 .1 .1 .1 .1 .1 .1 .1 .1 .1 .1 .1 .1 .0)
+
+abbrev pub fifteenth : {A B C D E F G H I J K L M N O : Type 0} → A × (B × (C × (D × (E × (F × (G × (H × (I × (J × (K × (L × (M × (N × (Slice × O)))))))))))))) → List ℕ
+fifteenth e = now (e .1 .1 .1 .1 .1 .1 .1 .1 .1 .1 .1 .1 .1 .1 .0)
+
 -- ---- a function that answers a part of a slice
 
 -- Two outcomes that meet the contract for the same arguments show the same bytes.

@@ -22,6 +22,12 @@ pub mod Blanking
 pub mod Watch
 pub mod Auditor
 pub mod Surveyor
+pub mod Cycles
+pub mod Devices
+pub mod Samples
+pub mod BootRom
+pub mod Host
+pub mod Player
 pub mod OpcodeData
 pub mod Listing
 pub mod Exports

@@ -21,3 +21,6 @@ set-whole-once = record { same = leaves }
 
 pub number-once : Answers state.number.Reads.Post
 number-once = record { same = answers }
+
+pub set-number-once : One state.set_number.Reads.Post (λ κ. first)
+set-number-once = record { same = leaves }

@@ -37,3 +37,7 @@ isWhole bytes = eqb (length bytes) 8 && isState (getD bytes 7 0)
 -- the record of eight bytes
 unfoldable pub wholeOf : List ℕ → Processor
 wholeOf bytes = withState (stateOf (getD bytes 7 0)) (registersOf (take 7 bytes))
+
+-- a number as four bytes, low first
+abbrev pub fourBytes : ℕ → List ℕ
+fourBytes n = n % 256 ∷ n / 256 % 256 ∷ n / 65536 % 256 ∷ n / 16777216 ∷ []

@@ -3,7 +3,7 @@
 ghost use Prim.Native.Nat.{_+_, _*_};
 ghost use mathlib.Core.Path.{_≡_};
 ghost use lib.ListN.{length};
-ghost use Rattle.state.specs.Registers.{registersOf, bytesOf, isWhole, wholeOf, wholeBytesOf};
+ghost use Rattle.state.specs.Registers.{registersOf, bytesOf, isWhole, wholeOf, wholeBytesOf, fourBytes};
 use processor::Processor;
 use psw::ProgramStatusWord;
 use waking::State;
@@ -70,4 +70,15 @@ pub fn number(b0: u8, b1: u8, b2: u8, b3: u8) -> u32
     ensures { λ r. ⌜ r ≡ b0 + 256 * b1 + 65536 * b2 + 16777216 * b3 ⌝ }
 {
     b0 as u32 + 256 * b1 as u32 + 65536 * b2 as u32 + 16777216 * b3 as u32
+}
+
+// Stores a number in four bytes, low first.
+pub fn set_number(bytes: &mut [u8], n: u32)
+    requires { ⌜ length (now bytes) ≡ 4 ⌝ }
+    ensures { λ r. ⌜ now (bytes .exit) ≡ fourBytes n ⌝ }
+{
+    bytes[0] = (n % 256) as u8;
+    bytes[1] = (n / 256 % 256) as u8;
+    bytes[2] = (n / 65536 % 256) as u8;
+    bytes[3] = (n / 16777216) as u8;
 }

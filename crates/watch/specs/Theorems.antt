@@ -78,25 +78,27 @@ bit-is-mark map j bytes h = go (decLt j 8)
         let high : devicesOf map / 256 ≡ getD map 31 0 = omega (arith, bytes 30) in
         rw (byte, bit) (high-bits (devicesOf map) j (omega arith) ∙ rw high)
 
-module _ (edition : Edition) (j : ℕ) (h : j < 16) where
-  module _ (cpu : Processor) (w : World) (size : Sized w) where
-    abbrev start : World
-    start = world (w .memory) clear clear
+module _ (edition : Edition) (cpu : Processor) (w : World) (size : Sized w) where
+  abbrev start : World
+  start = world (w .memory) clear clear
 
-    bytes : Bytes (alone edition cpu (w .memory) .left .reads)
-    bytes =
-        let none : Bitmaps start = record { reads = bytes-zeros 8192; writes = bytes-zeros 8192 } in
-        rw replays (bytes-replay (events (countedStep edition cpu) start) start none .reads)
+  -- Alone, from clear maps, a step leaves a map of bytes,
+  pub alone-bytes : Bytes (alone edition cpu (w .memory) .left .reads)
+  alone-bytes =
+      let none : Bitmaps start = record { reads = bytes-zeros 8192; writes = bytes-zeros 8192 } in
+      rw replays (bytes-replay (events (countedStep edition cpu) start) start none .reads)
 
-    -- Alone, from clear maps, a step marks what it reads before it stores there.
-    step-told :
-        (isSet (devicesOf (alone edition cpu (w .memory) .left .reads)) j ≡ true)
-        ↔ ReadFirst (240 + j) (events (countedStep edition cpu) w)
-    unfolding trace
-    step-told =
-        rw (bit-is-mark (alone edition cpu (w .memory) .left .reads) j bytes h)
-        (rw (run-one, append-nil, perform-unmapped (countedStep edition cpu) start w refl .1) at
-        (reads-exact (countedStep edition) 1 cpu start (fresh (w .memory) 8192 (size .memory) refl) (240 + j) (omega arith)))
+  -- which marks what it reads before it stores there.
+  pub mark-told : (k : ℕ) → k < 65536
+      → (isMarked (alone edition cpu (w .memory) .left .reads) k ≡ true) ↔ ReadFirst k (events (countedStep edition cpu) w)
+  unfolding trace
+  mark-told k h =
+      rw (run-one, append-nil, perform-unmapped (countedStep edition cpu) start w refl .1) at
+      (reads-exact (countedStep edition) 1 cpu start (fresh (w .memory) 8192 (size .memory) refl) k h)
+
+  step-told : (j : ℕ) → j < 16
+      → (isSet (devicesOf (alone edition cpu (w .memory) .left .reads)) j ≡ true) ↔ ReadFirst (240 + j) (events (countedStep edition cpu) w)
+  step-told j h = rw (bit-is-mark (alone edition cpu (w .memory) .left .reads) j alone-bytes h) (mark-told (240 + j) (omega arith))
 
 -- ---- a run
 
@@ -124,7 +126,7 @@ module _ (edition : Edition) (j : ℕ) (h : j < 16) where
           → (isSet (devicesRead edition n (o .result .regs) (o .left .memory)) j ≡ true
           → SomeStepReads edition n (o .result .regs) (o .left) (240 + j))
           → SomeStepReads edition (suc n) cpu w (240 + j)
-      go true q e later = record { before = 0; within = omega arith; reads = step-told edition j h cpu w size .0 q }
+      go true q e later = record { before = 0; within = omega arith; reads = step-told edition cpu w size j h .0 q }
       go false q e later = let s = later e in record { before = suc (s .before); within = omega (arith, s .within); reads = s .reads }
 
   shown : (budget : ℕ) (cpu : Processor) (w : World) → Sized w → (before : ℕ) → before < budget
@@ -132,7 +134,7 @@ module _ (edition : Edition) (j : ℕ) (h : j < 16) where
       → isSet (devicesRead edition budget cpu (w .memory)) j ≡ true
   unfolding devicesRead run
   shown zero cpu w size before within reads = absurd (omega arith)
-  shown (suc n) cpu w size zero within reads = rw (either-bit, step-told edition j h cpu w size .1 reads)
+  shown (suc n) cpu w size zero within reads = rw (either-bit, step-told edition cpu w size j h .1 reads)
   shown (suc n) cpu w size (suc before) within reads =
       let o = perform (countedStep edition cpu) w in
       let one = perform-unmapped (countedStep edition cpu) (world (w .memory) clear clear) w refl .0 in

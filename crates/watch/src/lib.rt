@@ -18,7 +18,7 @@ pub struct Watched {
 }
 
 // The marks of the device addresses in a map: its bytes 30 and 31.
-fn marks_of(map: &[u8]) -> u16
+pub fn marks_of(map: &[u8]) -> u16
     requires { ⌜ length (now map) ≡ 8192 ⌝ }
     ensures { λ r. ⌜ Marks (now (map .entry)) r ⌝ }
 {
@@ -26,7 +26,7 @@ fn marks_of(map: &[u8]) -> u16
 }
 
 // Puts marks in the place of these.
-fn put_marks(map: &mut [u8], marks: u16)
+pub fn put_marks(map: &mut [u8], marks: u16)
     requires { ⌜ length (now map) ≡ 8192 ⌝ }
     ensures { λ r. ⌜ now (map .exit) ≡ withMarks (now (map .entry)) marks ⌝ }
 {

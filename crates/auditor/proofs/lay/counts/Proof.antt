@@ -5,7 +5,7 @@ use mathlib.Core.Path.{_≡_}
 use mathlib.Core.List.{List, _++_}
 use lib.Seq.{sets}
 use borrow.Author.Needs.{needs}
-use Rattle.auditor.specs.Packet.{fourBytes}
+use Rattle.state.specs.Registers.{fourBytes}
 use Rattle.auditor.proofs.lay.counts.Statement.{statement}
 use Rattle.auditor.proofs.lay.counts.Tie as tie
 

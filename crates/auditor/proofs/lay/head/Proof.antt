@@ -10,7 +10,7 @@ use borrow.Author.Needs.{needs}
 use Rattle.marks.specs.declared.Counted.{Counted}
 use Rattle.state.specs.Registers.{bytesOf, wholeBytesOf}
 use Rattle.engine.specs.declared.Ran.{Ran}
-use Rattle.auditor.specs.Packet.{fourBytes}
+use Rattle.state.specs.Registers.{fourBytes}
 use Rattle.auditor.specs.Inside.{told}
 use Rattle.auditor.proofs.lay.head.Statement.{statement}
 use Rattle.auditor.proofs.lay.head.Tie as tie

@@ -10,7 +10,7 @@ use borrow.Author.Needs.{needs}
 use borrow.Rule.Slice.PartMut.{putMid}
 use Rattle.processor.specs.declared.Processor.{Processor}
 use Rattle.state.specs.Registers.{bytesOf, wholeBytesOf}
-use Rattle.auditor.specs.Packet.{fourBytes}
+use Rattle.state.specs.Registers.{fourBytes}
 use Rattle.auditor.proofs.Laws.{put-stored}
 use Rattle.auditor.proofs.lay.outcome.Statement.{statement}
 use Rattle.auditor.proofs.lay.outcome.Tie as tie

@@ -9,9 +9,9 @@ use lib.Bits.{bitOr}
 use lib.ListN.{length, getD, set, take, length-set}
 use lib.Seq.{take-all}
 use borrow.Author.Needs.{needs}
 use Rattle.blanking.specs.Together.{together}
-use Rattle.auditor.proofs.keep.join.Statement.{statement}
-use Rattle.auditor.proofs.keep.join.Tie as tie
+use Rattle.blanking.proofs.join.Statement.{statement}
+use Rattle.blanking.proofs.join.Tie as tie
 
 -- The first bytes of a map put together with another.
 record SoFar (map before other : List ℕ) (i : ℕ) : Type 0 where

@@ -1,0 +1,5 @@
+pub mod Laid
+pub mod Back
+pub mod Part
+pub mod Aside
+pub mod Made

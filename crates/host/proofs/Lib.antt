@@ -1,0 +1,4 @@
+pub mod And
+pub mod Turned
+pub mod SoFar
+pub mod BothSoFar

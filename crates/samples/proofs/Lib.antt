@@ -1,0 +1,3 @@
+pub mod Marking
+pub mod Stepping
+pub mod Voicing
