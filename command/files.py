@@ -10,6 +10,8 @@ SPC, RECORD, MEMORY, MAP = 66048, 65543, 65536, 8192
 MOST_BEHIND = 16 * 1024 * 1024
 # where a file of either kind has A X Y SP PC-low PC-high PSW, and its memory
 SPC_REGISTERS, SPC_MEMORY = (39, 40, 41, 43, 37, 38, 42), 256
+# where an SPC file has the 128 registers of the sound chip
+SPC_SOUND = 65792
 RECORD_REGISTERS, RECORD_MEMORY = tuple(range(7)), 7
 
 
@@ -30,6 +32,11 @@ class Image:
     @property
     def memory(self):
         return self.data[self.at:self.at + MEMORY]
+
+    @property
+    def sound(self):
+        """The sound chip's registers, which an SPC file has."""
+        return self.data[SPC_SOUND:SPC_SOUND + 128]
 
     @property
     def behind(self):

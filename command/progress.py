@@ -1,4 +1,4 @@
-"""How far a long run is: a line on standard error, where that is a terminal, and nothing elsewhere."""
+"""How far a long run or playing is: a line on standard error, where that is a terminal, and nothing elsewhere."""
 import sys
 import time
 
@@ -10,17 +10,17 @@ AGAIN = "\r\x1b[K"
 class Progress:
     """The line of one run."""
 
-    def __init__(self, steps):
-        self.steps, self.shown, self.began = steps, False, time.monotonic()
+    def __init__(self, most, called):
+        self.most, self.called, self.shown, self.began = most, called, False, time.monotonic()
 
     def show(self, done):
-        """Says how many steps are done, how many a second, and how long the rest would take; a run that is soon over says nothing."""
+        """Says how much is done, how much a second, and how long the rest would take; what is soon over says nothing."""
         spent = time.monotonic() - self.began
-        if not sys.stderr.isatty() or spent < SECONDS_BEFORE:
+        if not sys.stderr.isatty() or spent < SECONDS_BEFORE or not done:
             return
         speed = done / spent
-        left = (self.steps - done) / speed
-        sys.stderr.write(f"{AGAIN}{done:,} of {self.steps:,} steps, {speed:,.0f} a second, {left:,.0f} s left at most")
+        left = max(self.most - done, 0) / speed
+        sys.stderr.write(f"{AGAIN}{done:,.0f} of {self.most:,} {self.called}, {speed:,.0f} a second, {left:,.0f} s left at most")
         sys.stderr.flush()
         self.shown = True
 

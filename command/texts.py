@@ -26,6 +26,14 @@ def ending(run):
     return f"{steps}, until the budget was spent: it would have gone on"
 
 
+def playing(played):
+    """How a playing ended."""
+    steps = count(played.steps, "step", "steps")
+    if played.part.stop:
+        return f"ended by {STOPS[played.part.stop]} after {played.seconds:,.1f} s, {steps}"
+    return f"{played.seconds:,.1f} s, {steps}, until the time was over: it would have gone on"
+
+
 def stretch(first, last):
     """A range of addresses, as 0200-0247."""
     return f"{first:04X}-{last:04X}"

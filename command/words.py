@@ -56,6 +56,8 @@ class Each:
 
 FLAG = None
 STEPS = Number("number of steps", 0xFFFFFFFF)
+# an hour, and some minutes: what the cycles of a playing can be counted for
+SECONDS = Number("number of seconds", 4000)
 BYTE = Number("byte", 255)
 
 
