@@ -5,3 +5,4 @@ pub mod Beside
 pub mod Contracts
 pub mod Lengths
 pub mod Theorems
+pub mod Exact

@@ -32,6 +32,10 @@ use Rattle.host.specs.Lengths.{length-laid-out, ready-sized}
 abbrev pub Outside : ℕ → ℕ → ℕ → Type 0
 Outside first last a = (a < first) ⊎ (last < a)
 
+-- The marks of other addresses than the devices' stand in other bytes of a map than theirs, 30 and 31.
+pub other-byte : {k : ℕ} → Outside 0xF0 0xFF k → (k / 8 ≡ 30 → ⊥) × (k / 8 ≡ 31 → ⊥)
+other-byte = ⊎-elim (λ g. (λ e. omega arith, λ e. omega arith)) (λ g. (λ e. omega arith, λ e. omega arith))
+
 -- ---- what the host changes by itself
 
 -- bytes stored from a place on leave those before it, and those behind them
@@ -64,9 +68,6 @@ module _ (edition : Edition) (p : Playing) (size : Sized (p .world)) (k : ℕ) (
   abbrev found : World
   found = world (laidOut (p .player .devices) (p .chip) (p .world .memory)) (p .world .reads) (p .world .writes)
 
-  not-device : (k / 8 ≡ 30 → ⊥) × (k / 8 ≡ 31 → ⊥)
-  not-device = ⊎-elim (λ g. (λ e. omega arith, λ e. omega arith)) (λ g. (λ e. omega arith, λ e. omega arith)) other
-
   same-bytes : byteOf (k / 8) (turnOf edition p .world) ≡ byteOf (k / 8) (perform (countedStep edition (p .player .cpu)) found .left)
   unfolding turnOf
   same-bytes =
@@ -77,9 +78,8 @@ module _ (edition : Edition) (p : Playing) (size : Sized (p .world)) (k : ℕ) (
         writes = size .writes;
       })
       refl
-      (ap₂ both
-      (get-other (p .world .reads) 0 (k / 8) (not-device .0) (not-device .1))
-      (get-other (p .world .writes) 0 (k / 8) (not-device .0) (not-device .1)))
+      (let n = other-byte other in
+      ap₂ both (get-other (p .world .reads) 0 (k / 8) (n .0) (n .1)) (get-other (p .world .writes) 0 (k / 8) (n .0) (n .1)))
 
   pub marks-are-the-steps :
       let before = world (laidOut (p .player .devices) (p .chip) (p .world .memory)) (p .world .reads) (p .world .writes) in

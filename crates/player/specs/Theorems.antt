@@ -1,9 +1,10 @@
--- A playing goes on from what an answer holds; and what the map of what a playing is made of marks.
+-- What the maps of an answer mark, and the map of what a playing is made of; and that a playing goes on from what an answer holds.
 -- Assumes nothing.
 use Prim.Native.Nat.{ℕ, _+_, _*_, _/_, _%_, _^_, _<_, _≤_}
 use mathlib.Core.Path.{_≡_, refl, sym, ap, subst, _∙_}
-use mathlib.Core.Bool.{Bool, true, false, not, _||_}
+use mathlib.Core.Bool.{Bool, true, false, not, cond, _||_}
 use mathlib.Core.List.{List}
+use mathlib.Core.Logic.{_↔_}
 use native.Mathlib.Decide.{ℕ-discrete}
 use native.Mathlib.Omega.{arith}
 use lib.Dec.{eqb}
@@ -17,15 +18,24 @@ use Rattle.psw.specs.Status.{oneIf}
 use Rattle.processor.specs.Record.{wordOf}
 use Rattle.state.specs.Registers.{bytesOf, wholeBytesOf, wholeOf, fourBytes}
 use Rattle.state.specs.Theorems.{record-to-whole-and-back}
+use Rattle.editions.specs.Editions.{editionOf}
+use Rattle.runs.specs.Trace.{Event}
+use Rattle.runs.specs.Marks.{ReadFirst, StoredAt}
+use Rattle.runs.proofs.Exact.{Fresh}
 use Rattle.watch.specs.Marks.{withMarks}
 use Rattle.watch.proofs.Maps.{get-low, get-high, get-other}
 use Rattle.blanking.specs.Together.{together, together-size, marks-of-either}
 use Rattle.devices.specs.declared.Devices.{Devices}
+use Rattle.samples.specs.Lengths.{length-voices}
 use Rattle.host.specs.Turn.{Playing}
+use Rattle.host.specs.Lengths.{Whole}
+use Rattle.host.specs.Theorems.{Outside}
+use Rattle.host.specs.Exact as exact
+use Rattle.host.specs.Exact.{accesses, unmarked-same}
 use Rattle.host.specs.declared.Player.{Player}
-use Rattle.player.specs.Head.{registersIn, devicesIn, devicesOf, devicesBytes, headOf}
+use Rattle.player.specs.Head.{editionIn, budgetIn, untilIn, beginsIn, registersIn, devicesIn, devicesOf, devicesBytes, headOf}
 use Rattle.player.specs.Packet.{Packet, refusalOf, Start, startOf, begunOf, madeOf, finished, playedOf}
-use Rattle.player.specs.Accepted.{accepted}
+use Rattle.player.specs.Accepted.{Accepted, accepts, accepted}
 use Rattle.player.specs.Contracts.{playedTo}
 
 -- ---- devices
@@ -84,6 +94,44 @@ module _ (reads fetched : List ℕ) (r : length reads ≡ 8192) (f : length fetc
           byte-of (get-other (together reads fetched) 65535 (k / 8) m n)
           ∙ marks-of-either reads fetched k
           ∙ rw (ne-eqb _ _ m, ne-eqb _ _ n)
+
+-- ---- what the maps of an answer mark
+
+-- of two beginnings, whichever
+either-size : (b : Bool) (one other : Start) → length (one .fetched) ≡ 8192 → length (other .fetched) ≡ 8192
+    → length (cond b one other .fetched) ≡ 8192
+either-size true one other e f = e
+either-size false one other e f = f
+
+module _ (p : Packet) (a : Accepted p) where
+  start-size : length (begunOf p .fetched) ≡ 8192
+  unfolding startOf
+  start-size =
+      either-size (beginsIn (p .head)) _ _
+      (length-voices (p .world .memory) (p .world .writes) (p .chip) 8 0 255 (p .fetched) ∙ a .fetched)
+      (a .fetched)
+
+  begun-whole : Whole (begunOf p)
+  begun-whole = record { world = a .sized; chip = a .chip; fetched = start-size }
+
+  -- The accesses of all steps that an accepted packet is played on by.
+  abbrev pub accessesOf : List Event
+  accessesOf = accesses (editionOf (editionIn (p .head))) (untilIn (p .head)) (budgetIn (p .head)) (begunOf p)
+
+  -- Where its maps have no marks, and outside the device addresses: the read map that is answered marks an address exactly when some step
+  -- reads it before any step has stored there, and the written map exactly when some step stores there.
+  module _ (clear : Fresh (p .world)) (k : ℕ) (h : k < 65536) (other : Outside 0xF0 0xFF k) where
+    pub read-map-exact : (isMarked (playedOf p .left .world .reads) k ≡ true) ↔ ReadFirst k accessesOf
+    unfolding playedOf finished
+    read-map-exact =
+        rw (eq-eqb _ _ (accepts p a), unmarked-same other (playedTo p .playing .world .reads))
+        (exact.read-map-exact _ _ k h other _ (begunOf p) begun-whole clear)
+
+    pub written-map-exact : (isMarked (playedOf p .left .world .writes) k ≡ true) ↔ StoredAt k accessesOf
+    unfolding playedOf finished
+    written-map-exact =
+        rw (eq-eqb _ _ (accepts p a), unmarked-same other (playedTo p .playing .world .writes))
+        (exact.written-map-exact _ _ k h other _ (begunOf p) begun-whole clear)
 
 -- ---- a playing in parts
 

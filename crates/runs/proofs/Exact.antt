@@ -39,7 +39,7 @@ module _ (k : ℕ) where
   stored-split [] v t = rw (eq-eqb k k refl)
   stored-split (e ∷ s) v t = rw (stored-split s v t, or-true)
 
-  stored-means : (t : List Event) → (stored k t ≡ true) ↔ StoredAt k t
+  pub stored-means : (t : List Event) → (stored k t ≡ true) ↔ StoredAt k t
   stored-means t = (stores t, λ s. rw (s .split) (stored-split (s .before) (s .byte) (s .after)))
 
   needs : (t : List Event) → needed k t ≡ true → ReadFirst k t
@@ -62,7 +62,7 @@ module _ (k : ℕ) where
       go true q h more = absurd (true≢false h)
       go false q h more = rw (q, more h, or-true)
 
-  needed-means : (t : List Event) → (needed k t ≡ true) ↔ ReadFirst k t
+  pub needed-means : (t : List Event) → (needed k t ≡ true) ↔ ReadFirst k t
   needed-means t = (needs t, λ n. rw (n .split) (needed-split (n .before) (n .after) (n .first)))
 
 -- a world whose maps are clear
