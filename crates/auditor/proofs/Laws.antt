@@ -1,28 +1,18 @@
--- Bytes that are stored one after the other from a place on (`sets`), and what of a row a copy and a part are.
+-- Bytes that are stored one after the other from a place on (`sets`).
 -- Assumes nothing.
 use Prim.Native.Nat.{ℕ, suc, _+_, _≤_}
 use mathlib.Core.Path.{_≡_}
-use mathlib.Core.List.{List, [], _∷_, _++_, append-nil, append-assoc}
+use mathlib.Core.List.{List, [], _∷_, _++_}
 use native.Mathlib.Nat.{add-zero, add-suc, suc-add}
 use native.Mathlib.Omega.{arith}
 use lib.ListN.{length, set, take, drop, length-append}
-use lib.Seq.{sets, sets-eq, take-length, drop-length, drop-drop, take-append-add, length-take-le}
-use borrow.Rule.Slice.PartMut.{putMid}
+use lib.Seq.{sets, sets-eq, take-append-add, length-take-le}
 use Rattle.auditor.specs.Packet.{bytesAt}
 
 -- What is stored behind something stored is stored with it.
 pub sets-more : (xs ys row : List ℕ) (from : ℕ) → sets (sets row from xs) (from + length xs) ys ≡ sets row from (xs ++ ys)
 sets-more [] ys row from = rw add-zero
 sets-more (x ∷ xs) ys row from = rw (add-suc, ← suc-add) (sets-more xs ys (set row from x) (suc from))
-
--- What is copied into a part of its own length is all that the part then holds.
-pub whole-part : (from part : List ℕ) → length from ≡ length part → take (length from) from ++ drop (length from) part ≡ from
-whole-part from part e = rw (take-length from, e, drop-length part, append-nil from)
-
--- A part that is put back changed is stored there.
-pub put-stored : (row part : List ℕ) (at : ℕ) {n : ℕ} → length part ≡ n → at + n ≤ length row → putMid at n row part ≡ sets row at part
-put-stored row part at {n} size room =
-    let laid = sets-eq part row at (omega arith) in rw (laid, size, append-assoc, drop-drop n at row)
 
 -- The first places of a row behind which so many are left as they were.
 pub front : (row part : List ℕ) (at n : ℕ) → at + length part ≤ length row

@@ -1,4 +1,5 @@
--- Numbers that are stored one after the other, from a place of a row on (`sets`): what then stands where.
+-- Numbers that are stored one after the other, from a place of a row on (`sets`): what then stands where; and a part of a row that is
+-- copied into, or put back.
 -- Assumes nothing.
 use Prim.Native.Nat.{ℕ, zero, suc, _+_, _<_, _≤_}
 use mathlib.Core.Path.{_≡_, refl, ap, _∙_}
@@ -6,7 +7,8 @@ use mathlib.Core.List.{List, [], _∷_, _++_, append-nil, append-assoc}
 use native.Mathlib.Nat.{zero-add, add-zero, suc-add, add-suc}
 use native.Mathlib.Omega.{arith}
 use lib.ListN.{length, getD, set, take, drop, length-set, length-drop, take-append-drop}
-use lib.Seq.{sets, sets-eq, drop-length, getD-set-same, getD-set-other, set-getD, take-set-le, take-add, take-at, drop-at, length-take-le}
+use lib.Seq.{sets, sets-eq, take-length, drop-length, drop-drop, getD-set-same, getD-set-other, set-getD, take-set-le, take-add, take-at, drop-at, length-take-le}
+use borrow.Rule.Slice.PartMut.{putMid}
 
 -- As many as a row has places leave nothing of what it held.
 pub all-stored : (xs row : List ℕ) → length row ≡ length xs → sets row 0 xs ≡ xs
@@ -57,3 +59,14 @@ pub stored-again : (n : ℕ) (row : List ℕ) (from : ℕ) → from + n ≤ leng
 stored-again n row from room =
     let size = length-take-le n (drop from row) (rw length-drop (omega arith)) in
     sets-eq (take n (drop from row)) row from (rw size room) ∙ rw (size, ← take-add from n row) (take-append-drop (from + n) row)
+
+-- ---- parts of a row
+
+-- What is copied into a part of its own length is all that the part then holds.
+pub whole-part : (from part : List ℕ) → length from ≡ length part → take (length from) from ++ drop (length from) part ≡ from
+whole-part from part e = rw (take-length from, e, drop-length part, append-nil from)
+
+-- A part that is put back changed is stored there.
+pub put-stored : (row part : List ℕ) (at : ℕ) {n : ℕ} → length part ≡ n → at + n ≤ length row → putMid at n row part ≡ sets row at part
+put-stored row part at {n} size room =
+    let laid = sets-eq part row at (omega arith) in rw (laid, size, append-assoc, drop-drop n at row)

@@ -10,6 +10,7 @@ use lib.Seq.{length-take-le, take-at}
 use borrow.Author.Needs.{needs}
 use borrow.Author.Tests.{eq-eqb, ne-eqb}
 use borrow.Rule.Slice.PartAt.{part-to-end}
+use Rattle.laws.specs.Stored.{whole-part}
 use Rattle.laws.specs.Filled.{filled}
 use Rattle.waking.specs.States.{isAwake}
 use Rattle.processor.specs.declared.Processor.{Processor}
@@ -19,7 +20,6 @@ use Rattle.spc_file.specs.Layout.{signature, laid}
 use Rattle.spc_file.specs.Calls.{writeOf}
 use Rattle.spc_file.specs.Refused.{not-refused}
 use Rattle.spc_file.specs.Theorems.{Accepted, writes, lays}
-use Rattle.spc_file.proofs.Laws.{whole-part}
 use Rattle.conversion.specs.Unnamed.{withDefaults}
 use Rattle.conversion.specs.Calls.{toFileRefusal, newFile, fileOf, fileFromRecord}
 use Rattle.conversion.specs.Theorems.{Plain, signature-size, made-plain, new-plain, plain-alike, takes-record}

@@ -12,6 +12,7 @@ use borrow.Author.Needs.{needs}
 use borrow.Author.Tests.{eq-eqb, ne-eqb, not-true, not-false}
 use borrow.Rule.Slice.PartAt.{part-to-end}
 use borrow.Rule.Slice.PartMut.{putMid, post-is}
+use Rattle.laws.specs.Stored.{whole-part}
 use Rattle.laws.specs.Filled.{filled}
 use Rattle.state.specs.Registers.{bytesOf}
 use Rattle.spc_file.specs.Layout.{recordIn, memoryIn}
@@ -19,7 +20,6 @@ use Rattle.spc_file.specs.Calls.{refusalOf, readOf, memoryOf}
 use Rattle.spc_file.specs.Refused.{not-refused}
 use Rattle.spc_file.specs.Theorems.{accepted, gives-record, gives-part, memory-size}
 use Rattle.spc_file.specs.declared.FileRead.{FileRead}
-use Rattle.spc_file.proofs.Laws.{whole-part}
 use Rattle.conversion.specs.Unnamed.{allDefault}
 use Rattle.conversion.specs.Calls.{toRecordRefusal, recordOf, recordFromFile}
 use Rattle.conversion.proofs.record_from_file.Statement.{statement}

@@ -5,10 +5,10 @@ use mathlib.Core.Path.{_≡_, sym, _∙_}
 use mathlib.Core.List.{List, _++_}
 use lib.ListN.{length, take, drop}
 use borrow.Author.Needs.{needs}
+use Rattle.laws.specs.Stored.{whole-part}
 use Rattle.watch.specs.Marks.{withMarks}
 use Rattle.blanking.specs.Together.{together}
 use Rattle.player.specs.Packet.{madeOf}
-use Rattle.player.proofs.Laws.{whole-part}
 use Rattle.player.proofs.finish.Statement.{statement}
 use Rattle.player.proofs.finish.Tie as tie
 

@@ -9,12 +9,12 @@ use lib.Seq.{sets, length-sets, sets-eq, length-take-le}
 use borrow.Author.Needs.{needs}
 use borrow.Author.Tests.{eq-eqb, ne-eqb}
 use borrow.Rule.Slice.PartMut.{putMid, post-is}
+use Rattle.laws.specs.Stored.{whole-part}
 use Rattle.laws.specs.Filled.{filled}
 use Rattle.processor.specs.declared.Processor.{Processor}
 use Rattle.spc_file.specs.Layout.{recordBytes}
 use Rattle.spc_file.specs.Calls.{writeRefusal, writeOf}
 use Rattle.spc_file.specs.Theorems.{written}
-use Rattle.spc_file.proofs.Laws.{whole-part}
 use Rattle.spc_file.proofs.write.Statement.{statement}
 use Rattle.spc_file.proofs.write.Tie as tie
 

@@ -8,8 +8,8 @@ use lib.ListN.{length}
 use lib.Seq.{sets}
 use borrow.Author.Needs.{needs}
 use borrow.Rule.Slice.PartMut.{putMid}
+use Rattle.laws.specs.Stored.{put-stored}
 use Rattle.state.specs.Registers.{fourBytes}
-use Rattle.auditor.proofs.Laws.{put-stored}
 use Rattle.auditor.proofs.lay.number.Statement.{statement}
 use Rattle.auditor.proofs.lay.number.Tie as tie
 

@@ -8,10 +8,10 @@ use lib.ListN.{length, set, length-set}
 use lib.Seq.{sets, length-sets}
 use borrow.Author.Needs.{needs}
 use borrow.Rule.Slice.PartMut.{putMid}
+use Rattle.laws.specs.Stored.{put-stored}
 use Rattle.processor.specs.declared.Processor.{Processor}
 use Rattle.state.specs.Registers.{bytesOf, wholeBytesOf}
 use Rattle.state.specs.Registers.{fourBytes}
-use Rattle.auditor.proofs.Laws.{put-stored}
 use Rattle.auditor.proofs.lay.outcome.Statement.{statement}
 use Rattle.auditor.proofs.lay.outcome.Tie as tie
 

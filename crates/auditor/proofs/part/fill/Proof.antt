@@ -7,8 +7,8 @@ use native.Mathlib.Omega.{arith}
 use lib.ListN.{length, take, drop, length-drop}
 use lib.Seq.{length-take-le}
 use borrow.Author.Needs.{needs}
+use Rattle.laws.specs.Stored.{whole-part}
 use Rattle.auditor.specs.Packet.{bytesAt}
-use Rattle.auditor.proofs.Laws.{whole-part}
 use Rattle.auditor.proofs.part.fill.Statement.{statement}
 use Rattle.auditor.proofs.part.fill.Tie as tie
 

@@ -8,7 +8,7 @@ use lib.ListN.{length, take, drop, length-drop}
 use lib.Seq.{sets, length-take-le}
 use borrow.Author.Needs.{needs}
 use borrow.Rule.Slice.PartMut.{putMid}
-use Rattle.auditor.proofs.Laws.{whole-part, put-stored}
+use Rattle.laws.specs.Stored.{whole-part, put-stored}
 use Rattle.auditor.proofs.part.lay.Statement.{statement}
 use Rattle.auditor.proofs.part.lay.Tie as tie
 

@@ -8,10 +8,10 @@ use lib.ListN.{length, set, length-set}
 use lib.Seq.{sets, length-sets}
 use borrow.Author.Needs.{needs}
 use borrow.Rule.Slice.PartMut.{putMid}
+use Rattle.laws.specs.Stored.{put-stored}
 use Rattle.state.specs.Registers.{bytesOf, wholeBytesOf, fourBytes}
 use Rattle.host.specs.declared.Player.{Player}
 use Rattle.player.specs.Head.{devicesBytes, headOf}
-use Rattle.player.proofs.Laws.{put-stored}
 use Rattle.player.proofs.head.lay.Statement.{statement}
 use Rattle.player.proofs.head.lay.Tie as tie
 
