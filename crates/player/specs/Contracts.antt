@@ -1,7 +1,7 @@
 -- The contracts on the seven lent slices of a packet, in the order of every function's parameters.
 use Prim.Native.Nat.{ℕ}
 use mathlib.Core.Path.{_≡_}
-use mathlib.Core.Bool.{cond}
+use mathlib.Core.Bool.{Bool, cond, _&&_}
 use mathlib.Core.List.{List}
 use denote.Ref.{now}
 use lib.Dec.{eqb}
@@ -13,8 +13,8 @@ use Rattle.editions.specs.Editions.{editionOf}
 use Rattle.host.specs.Play.{Progress, playOf}
 use Rattle.host.specs.Beside.{Pair, besideOf}
 use Rattle.host.specs.declared.Player.{Player}
+use Rattle.player.specs.declared.head.Request.{Request}
 use Rattle.player.specs.Head.{editionIn, budgetIn, untilIn, headOf}
-use Rattle.player.specs.Accepted.{Accepted}
 use Rattle.player.specs.Packet as packet
 use Rattle.player.specs.Packet.{Packet, refusalOf, startOf, begunOf, madeOf, finished}
 
@@ -51,9 +51,30 @@ AnswersBoth call head chip memory reads writes fetched made head₂ chip₂ memo
 
 -- ---- behind these calls
 
+-- whether four maps have the right length
+abbrev pub mapSizes : ℕ → ℕ → ℕ → ℕ → Bool
+mapSizes reads writes fetched made = eqb reads 8192 && eqb writes 8192 && eqb fetched 8192 && eqb made 8192
+
+-- A packet with this head, with a row and a memory of these lengths, and with maps of the right lengths or not.
+pub record Measured (head : List ℕ) (chip memory : ℕ) (maps : Bool) (p : Packet) : Type 0 where
+  pub of-head : p .head ≡ head
+  pub of-chip : length (p .chip) ≡ chip
+  pub of-memory : length (p .world .memory) ≡ memory
+  pub of-maps : maps ≡ mapSizes (length (p .world .reads)) (length (p .world .writes)) (length (p .fetched)) (length (p .made))
+
+-- what each such packet is refused for
+abbrev pub Refuses : List ℕ → ℕ → ℕ → Bool → ℕ → Type 0
+Refuses head chip memory maps r = (p : Packet) → Measured head chip memory maps p → r ≡ refusalOf p
+
 -- what two packets are refused for
 abbrev pub refusalOfBoth : Packet → Packet → ℕ
 refusalOfBoth p q = let refusal = refusalOf p in cond (eqb refusal 0) (refusalOf q) refusal
+
+-- what a head asks
+pub record Asks (head : List ℕ) (r : Request) : Type 0 where
+  pub of-edition : r .edition ≡ editionIn head
+  pub of-until : r .until ≡ untilIn head
+  pub of-budget : r .budget ≡ budgetIn head
 
 -- the player with which a part begins
 abbrev pub Begins : Lent → Lent → Lent → Lent → Lent → Player → Type 0
@@ -74,10 +95,9 @@ pub record Finishes (reads writes fetched made : Lent) : Type 0 where
   pub of-writes : now (writes .exit) ≡ withMarks (now (writes .entry)) 0
   pub of-made : now (made .exit) ≡ madeOf (withMarks (now (reads .entry)) 0) (now (fetched .entry))
 
--- a packet that no test refuses
-abbrev pub Taken : Slice → Slice → Slice → Slice → Slice → Slice → Slice → Type 0
-Taken head chip memory reads writes fetched made =
-    Accepted (packetOf (now head) (now chip) (now memory) (now reads) (now writes) (now fetched) (now made))
+-- the head with which it ends beside another one
+pub record Tells (alike : Bool) (player : Player) (steps : ℕ) (head : Lent) : Type 0 where
+  pub of-head : now (head .exit) ≡ packet.told alike (headOf (now (head .entry)) player steps)
 
 -- how far it is played on, and what it is answered with
 abbrev pub playedTo : Packet → Progress

@@ -44,10 +44,10 @@ registersIn head = take 8 (drop 10 head)
 abbrev pub devicesIn : List ℕ → List ℕ
 devicesIn head = take 27 (drop 23 head)
 
-abbrev wordIn : ℕ → List ℕ → ℕ
+abbrev pub wordIn : ℕ → List ℕ → ℕ
 wordIn at bytes = wordOf (getD bytes at 0) (getD bytes (at + 1) 0)
 
-abbrev timerIn : ℕ → List ℕ → Timer
+abbrev pub timerIn : ℕ → List ℕ → Timer
 timerIn at bytes = timer (not (eqb (getD bytes at 0) 0)) (getD bytes (at + 1) 0) (getD bytes (at + 2) 0) (getD bytes (at + 3) 0)
 
 unfoldable pub devicesOf : List ℕ → Devices

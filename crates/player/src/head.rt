@@ -1,13 +1,22 @@
 // The head of a packet, 64 bytes: what is asked, and the player.
+ghost use Prim.Native.Nat.{_+_, _<_};
 ghost use mathlib.Core.Path.{_≡_};
 ghost use lib.ListN.{length};
-ghost use Rattle.player.specs.Head.{devicesOf, devicesBytes, budgetIn, untilIn, headOf};
+ghost use Rattle.player.specs.Head.{wordIn, timerIn, devicesOf, devicesBytes, budgetIn, untilIn, headOf};
+ghost use Rattle.player.specs.Contracts.{Asks};
 use devices::Devices;
 use devices::Timer;
 use host::Player;
 
+// In which edition is played, up to which cycle, and how many steps at most.
+pub struct Request {
+    pub edition: u8,
+    pub until: u32,
+    pub budget: u32,
+}
+
 // How many steps may be taken.
-pub fn budget(head: &[u8]) -> u32
+fn budget(head: &[u8]) -> u32
     requires { ⌜ length (now head) ≡ 64 ⌝ }
     ensures { λ r. ⌜ r ≡ budgetIn (now (head .entry)) ⌝ }
 {
@@ -22,6 +31,39 @@ pub fn until(head: &[u8]) -> u32
     state::number(head[5], head[6], head[7], head[8])
 }
 
+// All that a head asks: one call in place of three, where many slices are at hand.
+pub fn asked(head: &[u8]) -> Request
+    requires { ⌜ length (now head) ≡ 64 ⌝ }
+    ensures { λ r. ⌜ Asks (now (head .entry)) r ⌝ }
+{
+    Request {
+        edition: head[0],
+        until: until(head),
+        budget: budget(head),
+    }
+}
+
+// A number of two bytes, low first.
+fn word_in(bytes: &[u8], at: usize) -> u16
+    requires { ⌜ at + 1 < length (now bytes) ⌝ }
+    ensures { λ r. ⌜ r ≡ wordIn at (now (bytes .entry)) ⌝ }
+{
+    processor::word(bytes[at], bytes[at + 1])
+}
+
+// A timer of four bytes.
+fn timer_in(bytes: &[u8], at: usize) -> Timer
+    requires { ⌜ at + 3 < length (now bytes) ⌝ }
+    ensures { λ r. ⌜ r ≡ timerIn at (now (bytes .entry)) ⌝ }
+{
+    Timer {
+        on: bytes[at] != 0,
+        target: bytes[at + 1],
+        ticks: bytes[at + 2],
+        count: bytes[at + 3],
+    }
+}
+
 // The devices that 27 bytes hold.
 pub fn devices(bytes: &[u8]) -> Devices
     requires { ⌜ length (now bytes) ≡ 27 ⌝ }
@@ -29,28 +71,13 @@ pub fn devices(bytes: &[u8]) -> Devices
 {
     Devices {
         cycles: state::number(bytes[0], bytes[1], bytes[2], bytes[3]),
-        read: processor::word(bytes[4], bytes[5]),
-        stored: processor::word(bytes[6], bytes[7]),
-        last: processor::word(bytes[8], bytes[9]),
+        read: word_in(bytes, 4),
+        stored: word_in(bytes, 6),
+        last: word_in(bytes, 8),
         rom: bytes[10] != 0,
-        timer0: Timer {
-            on: bytes[11] != 0,
-            target: bytes[12],
-            ticks: bytes[13],
-            count: bytes[14],
-        },
-        timer1: Timer {
-            on: bytes[15] != 0,
-            target: bytes[16],
-            ticks: bytes[17],
-            count: bytes[18],
-        },
-        timer2: Timer {
-            on: bytes[19] != 0,
-            target: bytes[20],
-            ticks: bytes[21],
-            count: bytes[22],
-        },
+        timer0: timer_in(bytes, 11),
+        timer1: timer_in(bytes, 15),
+        timer2: timer_in(bytes, 19),
         port0: bytes[23],
         port1: bytes[24],
         port2: bytes[25],

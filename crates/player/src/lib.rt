@@ -4,30 +4,41 @@
 mod head;
 
 ghost use mathlib.Core.Path.{_≡_};
+ghost use mathlib.Core.Bool.{cond};
+ghost use lib.Dec.{eqb};
 ghost use lib.ListN.{length};
 ghost use Rattle.samples.specs.Fetched.{Fetching};
 ghost use Rattle.player.specs.Head.{headOf};
-ghost use Rattle.player.specs.Packet.{refusalOf, told, playedOf, playedBeside};
-ghost use Rattle.player.specs.Contracts.{before, after, refusalOfBoth, Answers, AnswersBoth, Begins, Maps, Finishes, Taken, playedOn, playedBothOn};
+ghost use Rattle.player.specs.Packet.{playedOf, playedBeside};
+ghost use Rattle.player.specs.Contracts.{mapSizes, Refuses, Answers, AnswersBoth, Begins, Maps, Finishes, Tells};
 use devices::Devices;
 use host::Player;
 
-// The number of the first test that a packet does not pass, or 0.
-fn refusal_of(
-    head: &[u8],
-    chip: &[u8],
-    memory: &[u8],
-    reads: &[u8],
-    writes: &[u8],
-    fetched: &[u8],
-    made: &[u8],
-) -> u8
-    ensures { λ r. ⌜ r ≡ refusalOf (before head chip memory reads writes fetched made) ⌝ }
+// Whether four maps have the right length.
+fn are_maps(reads: usize, writes: usize, fetched: usize, made: usize) -> bool
+    ensures { λ r. ⌜ r ≡ mapSizes reads writes fetched made ⌝ }
+{
+    if reads != 8192 {
+        return false;
+    }
+    if writes != 8192 {
+        return false;
+    }
+    if fetched != 8192 {
+        return false;
+    }
+    made == 8192
+}
+
+// The number of the first test that a packet does not pass, or 0. Of all slices but the head only the lengths count, and only these are
+// passed: each slice that is lent to a call makes the caller dearer to prove.
+fn refusal_of(head: &[u8], chip: usize, memory: usize, maps: bool) -> u8
+    ensures { λ r. ⌜ Refuses (now (head .entry)) chip memory maps r ⌝ }
 {
     if head.len() != 64 {
         return 6;
     }
-    if chip.len() != 512 {
+    if chip != 512 {
         return 6;
     }
     if !state::is_whole(&head[10..18]) {
@@ -39,49 +50,23 @@ fn refusal_of(
     if !editions::is_edition(head[0]) {
         return 9;
     }
-    if memory.len() != 65536 {
+    if memory != 65536 {
         return 1;
     }
-    if reads.len() != 8192 {
-        return 2;
-    }
-    if writes.len() != 8192 {
-        return 2;
-    }
-    if fetched.len() != 8192 {
-        return 2;
-    }
-    if made.len() != 8192 {
+    if !maps {
         return 2;
     }
     0
 }
 
 // The first one's refusal of two packets, or else the second one's.
-fn refusal_of_both(
-    head: &[u8],
-    chip: &[u8],
-    memory: &[u8],
-    reads: &[u8],
-    writes: &[u8],
-    fetched: &[u8],
-    made: &[u8],
-    head2: &[u8],
-    chip2: &[u8],
-    memory2: &[u8],
-    reads2: &[u8],
-    writes2: &[u8],
-    fetched2: &[u8],
-    made2: &[u8],
-) -> u8
-    ensures { λ r. ⌜ r ≡ refusalOfBoth (before head chip memory reads writes fetched made)
-        (before head2 chip2 memory2 reads2 writes2 fetched2 made2) ⌝ }
+fn refusal_of_both(first: u8, second: u8) -> u8
+    ensures { λ r. ⌜ r ≡ cond (eqb first 0) second first ⌝ }
 {
-    let refusal = refusal_of(head, chip, memory, reads, writes, fetched, made);
-    if refusal != 0 {
-        return refusal;
+    if first != 0 {
+        return first;
     }
-    refusal_of(head2, chip2, memory2, reads2, writes2, fetched2, made2)
+    second
 }
 
 // The player that a packet holds. Where its playing begins, the devices are as the image leaves them, and all eight voices may be sounding
@@ -134,39 +119,6 @@ fn end(
     finish(reads, writes, fetched, made);
 }
 
-// Plays a packet on that no test refuses, and answers in its own slices.
-fn answer(
-    head: &mut [u8],
-    chip: &mut [u8],
-    memory: &mut [u8],
-    reads: &mut [u8],
-    writes: &mut [u8],
-    fetched: &mut [u8],
-    made: &mut [u8],
-)
-    requires { ⌜ Taken head chip memory reads writes fetched made ⌝ }
-    ensures { λ r. ⌜ after head chip memory reads writes fetched made
-        ≡ playedOn (before head chip memory reads writes fetched made) ⌝ }
-{
-    let player = begin(head, chip, memory, writes, fetched);
-    let edition = head[0];
-    let until = head::until(head);
-    let budget = head::budget(head);
-    let played = host::play(
-        player,
-        edition,
-        until,
-        budget,
-        memory,
-        reads,
-        writes,
-        chip,
-        fetched,
-    );
-    let next = played.player;
-    end(next, played.steps, head, reads, writes, fetched, made);
-}
-
 // Plays on as a packet asks, and answers in its own slices. Refused, all stays as it was. Refusals: 6 a head or a row of a wrong length,
 // registers whose last byte is above 2, or more cycles than can be counted; 9 an edition that is neither 1 nor 2; 1 a memory, 2 a map of a
 // wrong length.
@@ -181,11 +133,26 @@ pub fn session(
 ) -> u8
     ensures { λ r. ⌜ Answers playedOf head chip memory reads writes fetched made r ⌝ }
 {
-    let refusal = refusal_of(head, chip, memory, reads, writes, fetched, made);
+    let maps = are_maps(reads.len(), writes.len(), fetched.len(), made.len());
+    let refusal = refusal_of(head, chip.len(), memory.len(), maps);
     if refusal != 0 {
         return refusal;
     }
-    answer(head, chip, memory, reads, writes, fetched, made);
+    let player = begin(head, chip, memory, writes, fetched);
+    let asked = head::asked(head);
+    let played = host::play(
+        player,
+        asked.edition,
+        asked.until,
+        asked.budget,
+        memory,
+        reads,
+        writes,
+        chip,
+        fetched,
+    );
+    let next = played.player;
+    end(next, played.steps, head, reads, writes, fetched, made);
     0
 }
 
@@ -201,78 +168,10 @@ fn end_told(
     made: &mut [u8],
 )
     requires { ⌜ (length (now head) ≡ 64) × Maps reads writes fetched made ⌝ }
-    ensures { λ r. ⌜ (now (head .exit) ≡ told alike (headOf (now (head .entry)) player steps)) × Finishes reads writes fetched made ⌝ }
+    ensures { λ r. ⌜ Tells alike player steps head × Finishes reads writes fetched made ⌝ }
 {
     end(player, steps, head, reads, writes, fetched, made);
     head[50] = psw::one_if(alike);
-}
-
-// Plays two packets on side by side that no test refuses, as the first one asks, and answers in their own slices.
-fn answer_both(
-    head: &mut [u8],
-    chip: &mut [u8],
-    memory: &mut [u8],
-    reads: &mut [u8],
-    writes: &mut [u8],
-    fetched: &mut [u8],
-    made: &mut [u8],
-    head2: &mut [u8],
-    chip2: &mut [u8],
-    memory2: &mut [u8],
-    reads2: &mut [u8],
-    writes2: &mut [u8],
-    fetched2: &mut [u8],
-    made2: &mut [u8],
-)
-    requires { ⌜ Taken head chip memory reads writes fetched made ⌝ }
-    requires { ⌜ Taken head2 chip2 memory2 reads2 writes2 fetched2 made2 ⌝ }
-    ensures { λ r. ⌜ AnswersBoth playedBothOn head chip memory reads writes fetched made
-        head2 chip2 memory2 reads2 writes2 fetched2 made2 0 ⌝ }
-{
-    let first = begin(head, chip, memory, writes, fetched);
-    let second = begin(head2, chip2, memory2, writes2, fetched2);
-    let edition = head[0];
-    let until = head::until(head);
-    let budget = head::budget(head);
-    let both = host::play_both(
-        first,
-        second,
-        edition,
-        until,
-        budget,
-        memory,
-        reads,
-        writes,
-        chip,
-        fetched,
-        memory2,
-        reads2,
-        writes2,
-        chip2,
-        fetched2,
-    );
-    let a = both.first;
-    let b = both.second;
-    end_told(
-        a,
-        both.steps,
-        both.alike,
-        head,
-        reads,
-        writes,
-        fetched,
-        made,
-    );
-    end_told(
-        b,
-        both.steps,
-        both.alike,
-        head2,
-        reads2,
-        writes2,
-        fetched2,
-        made2,
-    );
 }
 
 // Plays two packets on side by side, as the first one asks, and tells in byte 50 of both heads whether they were alike to the last step.
@@ -296,40 +195,39 @@ pub fn beside(
     ensures { λ r. ⌜ AnswersBoth playedBeside head chip memory reads writes fetched made
         head2 chip2 memory2 reads2 writes2 fetched2 made2 r ⌝ }
 {
-    let refusal = refusal_of_both(
-        head,
-        chip,
-        memory,
-        reads,
-        writes,
-        fetched,
-        made,
-        head2,
-        chip2,
-        memory2,
-        reads2,
-        writes2,
-        fetched2,
-        made2,
-    );
+    let maps = are_maps(reads.len(), writes.len(), fetched.len(), made.len());
+    let maps2 = are_maps(reads2.len(), writes2.len(), fetched2.len(), made2.len());
+    let one = refusal_of(head, chip.len(), memory.len(), maps);
+    let two = refusal_of(head2, chip2.len(), memory2.len(), maps2);
+    let refusal = refusal_of_both(one, two);
     if refusal != 0 {
         return refusal;
     }
-    answer_both(
-        head,
-        chip,
+    let first = begin(head, chip, memory, writes, fetched);
+    let second = begin(head2, chip2, memory2, writes2, fetched2);
+    let asked = head::asked(head);
+    let both = host::play_both(
+        first,
+        second,
+        asked.edition,
+        asked.until,
+        asked.budget,
         memory,
         reads,
         writes,
+        chip,
         fetched,
-        made,
-        head2,
-        chip2,
         memory2,
         reads2,
         writes2,
+        chip2,
         fetched2,
-        made2,
     );
+    let a = both.first;
+    let b = both.second;
+    let steps = both.steps;
+    let alike = both.alike;
+    end_told(a, steps, alike, head, reads, writes, fetched, made);
+    end_told(b, steps, alike, head2, reads2, writes2, fetched2, made2);
     0
 }

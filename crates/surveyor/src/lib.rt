@@ -3,7 +3,7 @@ ghost use Prim.Native.Nat.{_≤_};
 ghost use mathlib.Core.Bool.{cond};
 ghost use mathlib.Core.Path.{_≡_};
 ghost use mathlib.Core.List.{_∷_};
-ghost use lib.ListN.{length, take};
+ghost use lib.ListN.{length, take, drop};
 ghost use Rattle.text.specs.Given.{Gives, says};
 ghost use Rattle.differences.specs.Calls.{marksOf};
 ghost use Rattle.differences.specs.Walk.{Pair, Usable};
@@ -62,26 +62,30 @@ fn of_map(map: &[u8], out: &mut [u8]) -> Written
     compare(&first, &second, false, map, out)
 }
 
-// Gives the stretches at which two memories differ that stand one behind the other. There is no map: what is lent in its place is not read.
+// Gives the stretches at which two memories differ that stand one behind the other, and whether one of them touches a mark of a map, where
+// there is one.
+fn of_pair(memories: &[u8], has_map: bool, map: &[u8], out: &mut [u8]) -> Written
+    requires { ⌜ (length (now memories) ≡ 131072) × Usable «has_map» (now map) ⌝ }
+    ensures { λ r. ⌜ Gives (says (compared (marksOf «has_map» (now (map .entry)))
+        (take 65536 (now (memories .entry))) (drop 65536 (now (memories .entry))))) out r ⌝ }
+{
+    compare(&memories[0..65536], &memories[65536..], has_map, map, out)
+}
+
+// The same without a map: what is lent in its place is not read.
 fn of_memories(input: &[u8], out: &mut [u8]) -> Written
     requires { ⌜ length (now input) ≡ 131072 ⌝ }
     ensures { λ r. ⌜ Gives (says (ofMemories (now (input .entry)))) out r ⌝ }
 {
-    compare(&input[0..65536], &input[65536..131072], false, input, out)
+    of_pair(input, false, input, out)
 }
 
-// The same for two memories behind a map, and whether a stretch touches a mark of it.
+// The same for two memories behind a map.
 fn of_all(input: &[u8], out: &mut [u8]) -> Written
     requires { ⌜ length (now input) ≡ 139264 ⌝ }
     ensures { λ r. ⌜ Gives (says (ofAll (now (input .entry)))) out r ⌝ }
 {
-    compare(
-        &input[8192..73728],
-        &input[73728..139264],
-        true,
-        &input[0..8192],
-        out,
-    )
+    of_pair(&input[8192..], true, &input[0..8192], out)
 }
 
 // Gives the answer to an input into a lent buffer. Refusal 3 where the buffer is too short for it.

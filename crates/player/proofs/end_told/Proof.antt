@@ -40,7 +40,7 @@ returns c =
     let ended = c .before .before .before .before .before .before .before .before .before in
     let left = ended .end .ensures in
     let maps = left .1 in (
-      with-told (ended .before .before .before .before .before .before .before .before .before .before .args .alike) _ (left .0) (c .one-if .ensures .0),
+      record { of-head = with-told (ended .before .before .before .before .before .before .before .before .before .before .args .alike) _ (left .0) (c .one-if .ensures .0) },
       record { of-reads = maps .of-reads; of-writes = maps .of-writes; of-made = maps .of-made },
     )
 
