@@ -2,7 +2,7 @@
 ghost use Prim.Native.Nat.{_<_};
 ghost use mathlib.Core.Path.{_≡_};
 ghost use Rattle.instructions.specs.Effects.{effectOf};
-ghost use Rattle.effects.specs.Columns.{accumulatorGroup, pairGroup, shiftGroup};
+ghost use Rattle.instructions.specs.Families.{accumulatorGroup, pairGroup, shiftGroup};
 use crate::kinds::into_a;
 use crate::kinds::into_memory;
 use crate::kinds::into_x;

@@ -1,18 +1,16 @@
--- The public step and run: refusals 9, 1 and 2, and else what the definition gives.
+-- The public step and run: refusals 9, 1 and 2, and else what the definition gives (`countedStep` and `runOf`, of crate instructions).
 use Prim.Native.Nat.{ℕ}
 use mathlib.Core.Bool.{cond}
 use lib.Dec.{eqb}
 use lib.ListN.{length}
 use Rattle.memory.specs.World.{World}
-use Rattle.memory.specs.Access.{Access, then, Outcome, perform}
-use Rattle.memory.specs.Access.Access.{done}
-use Rattle.waking.specs.States.{numberOf, isAwake}
+use Rattle.memory.specs.Access.{Outcome, perform}
+use Rattle.waking.specs.States.{numberOf}
 use Rattle.editions.specs.Editions.{isEdition, editionOf}
-use Rattle.editions.specs.declared.Edition.{Edition}
 use Rattle.processor.specs.declared.Processor.{Processor}
-use Rattle.instructions.specs.Step.{stepOf}
-use Rattle.runs.specs.Run.{Progress, progress, run}
-use Rattle.runs.specs.Trace.{taken}
+unfoldable pub use Rattle.instructions.specs.Runs.{countedStep}
+pub use Rattle.instructions.specs.Runs.{runOf}
+use Rattle.runs.specs.Run.{Progress}
 use Rattle.engine.specs.declared.Ran.{Ran}
 
 abbrev pub ran : ℕ → Processor → ℕ → ℕ → Ran
@@ -43,17 +41,6 @@ refusalOf number w =
 -- What a call answers, and what it leaves, where the definition gives `o`.
 abbrev pub answered : ℕ → Processor → World → Outcome World (Progress Processor) → Outcome World Ran
 answered number cpu w o = cond (eqb (refusalOf number w) 0) (accepted o) (refused (refusalOf number w) cpu w)
-
--- One step in an edition, counted, of a record that is awake: SLEEP and STOP count, too. A record that is not awake takes none, and nothing
--- changes.
-unfoldable pub countedStep : Edition → Processor → Access (Progress Processor)
-countedStep edition cpu =
-    cond (isAwake (cpu .state)) (then (stepOf edition cpu) (λ next. done (progress next 1))) (done (progress cpu 0))
-
--- A run, all in one edition: as many of these as the budget has, one after the other. So it takes steps until the budget is spent or SLEEP
--- or STOP was executed, and none if the record is not awake to begin with.
-abbrev pub runOf : Edition → ℕ → Processor → World → Outcome World (Progress Processor)
-runOf edition = run (taken (countedStep edition))
 
 -- What the public step and the public run answer, and what they leave. They are given the number of the edition.
 abbrev pub stepAnswer : ℕ → Processor → World → Outcome World Ran

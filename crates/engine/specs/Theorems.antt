@@ -13,6 +13,7 @@ use Rattle.editions.specs.declared.Edition.{Edition}
 use Rattle.processor.specs.declared.Processor.{Processor}
 use Rattle.instructions.specs.Order.{ReadsFirst, afterOpcode}
 use Rattle.instructions.proofs.Order as order
+use Rattle.instructions.proofs.SoFar as loop
 use Rattle.runs.specs.Run.{rested, joined}
 use Rattle.runs.specs.Trace.{taken}
 use Rattle.runs.proofs.Run as runs
@@ -30,8 +31,7 @@ module _ (edition : Edition) where
 
   -- and one that is not takes none, and nothing changes.
   pub no-step : (cpu : Processor) (w : World) → isAwake (cpu .state) ≡ false → perform (countedStep edition cpu) w ≡ rested cpu w
-  unfolding countedStep perform
-  no-step cpu w e = rw e
+  no-step = loop.no-step edition
 
   -- A run takes no more steps than its budget, and all of it where it leaves the record awake.
   pub within-budget : (budget : ℕ) (cpu : Processor) (w : World) → runOf edition budget cpu w .result .steps ≤ budget

@@ -73,10 +73,8 @@ fn take_steps(
     }
 }
 
-// A run in one edition, given by its number: as many steps as the budget has (stop 0), or fewer where SLEEP (stop 1) or STOP (stop 2) ends
-// it. A record that one of the two has put to rest takes no step until it is woken, and gives that stop again. Refusals: 9 the edition is
-// neither 1 nor 2, 1 memory is not 65,536 bytes, 2 a map is not 8,192 bytes.
-pub fn run(
+// A run by steps on the record, memory and maps.
+fn run_short(
     cpu: Processor,
     edition: u8,
     memory: &mut [u8],
@@ -94,6 +92,53 @@ pub fn run(
     take_steps(cpu, edition, memory, reads, writes, budget)
 }
 
+// A run by steps on flat registers and cells: the same answer, at a cost before the first step and behind the last.
+fn run_long(
+    cpu: Processor,
+    edition: u8,
+    memory: &mut [u8],
+    reads: &mut [u8],
+    writes: &mut [u8],
+    budget: u32,
+) -> Ran
+    ensures { λ r. ⌜ Yields (runAnswer edition budget cpu) memory reads writes r ⌝ }
+{
+    let refusal = refusal_of(edition, memory, reads, writes);
+    if refusal != 0 {
+        return refused(refusal, cpu);
+    }
+    let edition = editions::edition_of(edition);
+    let taken = long_runs::run(cpu, edition, memory, reads, writes, budget);
+    let next = taken.cpu;
+    let state = next.state;
+    Ran {
+        refusal: 0,
+        cpu: next,
+        steps: taken.steps,
+        stop: waking::number_of(state),
+    }
+}
+
+// A run in one edition, given by its number: as many steps as the budget has (stop 0), or fewer where SLEEP (stop 1) or STOP (stop 2) ends
+// it. A record that one of the two has put to rest takes no step until it is woken, and gives that stop again. Refusals: 9 the edition is
+// neither 1 nor 2, 1 memory is not 65,536 bytes, 2 a map is not 8,192 bytes.
+pub fn run(
+    cpu: Processor,
+    edition: u8,
+    memory: &mut [u8],
+    reads: &mut [u8],
+    writes: &mut [u8],
+    budget: u32,
+) -> Ran
+    ensures { λ r. ⌜ Yields (runAnswer edition budget cpu) memory reads writes r ⌝ }
+{
+    // where the long way begins to pay: docs/DECISIONS.md
+    if budget < 12000 {
+        return run_short(cpu, edition, memory, reads, writes, budget);
+    }
+    run_long(cpu, edition, memory, reads, writes, budget)
+}
+
 // One step: a run of budget 1, so that the step loop is the one caller of `instruction`, which is then compiled into it
 // (docs/SPEED.md). Refusals as for a run.
 pub fn step(
@@ -105,5 +150,5 @@ pub fn step(
 ) -> Ran
     ensures { λ r. ⌜ Yields (stepAnswer edition cpu) memory reads writes r ⌝ }
 {
-    run(cpu, edition, memory, reads, writes, 1)
+    run_short(cpu, edition, memory, reads, writes, 1)
 }

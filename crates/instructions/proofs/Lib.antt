@@ -7,3 +7,4 @@ pub mod Inside
 pub mod Order
 pub mod Same
 pub mod States
+pub mod SoFar

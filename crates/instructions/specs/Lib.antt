@@ -2,6 +2,8 @@ pub mod Rows
 pub mod Gather
 pub mod Effects
 pub mod Step
+pub mod Families
+pub mod Runs
 pub mod Cases
 pub mod Order
 pub mod Inside

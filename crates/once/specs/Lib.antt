@@ -16,6 +16,7 @@ pub mod Editions
 pub mod Modes
 pub mod Gather
 pub mod Effects
+pub mod LongRuns
 pub mod Engine
 pub mod Differences
 pub mod Blanking

@@ -64,6 +64,9 @@ tclr-once = record { same = answers }
 
 -- ---- products
 
+pub times-once : Answers processor.times.Reads.Post
+times-once = record { same = answers }
+
 pub mul-once : Answers cpu.mul.Reads.Post
 mul-once = record { same = answers }
 

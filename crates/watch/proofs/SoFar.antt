@@ -14,6 +14,7 @@ use Rattle.memory.specs.World.{World, Sized}
 use Rattle.memory.specs.Access.{Outcome, outcome}
 use Rattle.editions.specs.Editions.{isEdition, editionOf}
 use Rattle.processor.specs.declared.Processor.{Processor}
+use Rattle.instructions.proofs.SoFar as loop
 use Rattle.runs.specs.Trace.{taken}
 use Rattle.runs.proofs.Run.{run-next}
 use Rattle.engine.specs.Accepted.{accepts}
@@ -31,7 +32,7 @@ use Rattle.watch.proofs.Step.{watched-one}
 -- of whose state is `stop`, told these device addresses, and left this world.
 pub record SoFar (number budget : ℕ) (cpu : Processor) (w : World) (next : Processor) (stop left devices : ℕ) (now : World) : Type 0 where
   pub named : isEdition number ≡ true
-  pub steps : engine.SoFar (editionOf number) budget cpu w next left now
+  pub steps : loop.SoFar (editionOf number) budget cpu w next left now
   pub state : stop ≡ numberOf (next .state)
   pub told : devices ≡ devicesRead (editionOf number) (budget - left) cpu (w .memory)
 
@@ -40,7 +41,7 @@ pub begun : {number budget : ℕ} {cpu : Processor} {w : World} {stop : ℕ} →
     → stop ≡ numberOf (cpu .state) → SoFar number budget cpu w cpu stop budget 0 w
 unfolding devicesRead
 begun {budget = budget} named size state =
-    record { named = named; steps = engine.begun size; state = state; told = let none : budget - budget ≡ 0 = omega arith in rw none }
+    record { named = named; steps = loop.begun size; state = state; told = let none : budget - budget ≡ 0 = omega arith in rw none }
 
 module _ {number budget : ℕ} {cpu : Processor} {w : World} {next : Processor} {stop left devices : ℕ} {now : World}
     (sofar : SoFar number budget cpu w next stop left devices now) where

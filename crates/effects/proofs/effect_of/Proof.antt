@@ -11,7 +11,8 @@ use Rattle.instructions.specs.Rows.Operation.{set1, clr1, bbs, bbc, call}
 use Rattle.instructions.specs.Effects.{effectOf}
 use Rattle.instructions.specs.declared.Operands.{Operands}
 use Rattle.instructions.specs.declared.Effect.{Effect}
-use Rattle.effects.specs.Columns.{inColumn, accumulatorGroup, pairGroup, shiftGroup}
+use Rattle.instructions.specs.Families.{accumulatorGroup, pairGroup, shiftGroup}
+use Rattle.effects.specs.Columns.{inColumn}
 use Rattle.effects.proofs.Rows.{AllHave, named, left, named-row, left-row, named-test, left-test, low-five}
 use Rattle.effects.proofs.effect_of.Statement.{statement}
 use Rattle.effects.proofs.effect_of.Tie as tie

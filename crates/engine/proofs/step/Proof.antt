@@ -5,8 +5,8 @@ use Rattle.engine.specs.Theorems.{step-is-run-of-one}
 use Rattle.engine.proofs.step.Statement.{statement}
 use Rattle.engine.proofs.step.Tie as tie
 
-run-requires : tie.Need-run-requires
-run-requires c κs = search needs
+run-short-requires : tie.Need-run-short-requires
+run-short-requires c κs = search needs
 
 same-length : tie.Need-same-length
 same-length c = search needs
@@ -21,4 +21,4 @@ returns : tie.Need-returns
 returns c = search (needs, step-is-run-of-one)
 
 pub step-spec : {M : Type 1} → statement M
-step-spec = tie.close (tie.spec run-requires same-length same-length-2 same-length-3 returns)
+step-spec = tie.close (tie.spec run-short-requires same-length same-length-2 same-length-3 returns)

@@ -5,7 +5,8 @@ use mathlib.Core.Logic.{⊎-elim}
 use native.Mathlib.Omega.{arith}
 use borrow.Author.Needs.{needs}
 use Rattle.memory.specs.World.{world}
-use Rattle.engine.proofs.SoFar.{SoFar, begun, one-more, resting, spent}
+use Rattle.instructions.proofs.SoFar.{SoFar, begun, one-more}
+use Rattle.engine.proofs.SoFar.{resting, spent}
 use Rattle.engine.proofs.take_steps.Statement.{statement}
 use Rattle.engine.proofs.take_steps.Tie as tie
 
