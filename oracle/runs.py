@@ -10,6 +10,8 @@ import accesses
 import images
 import records
 
+# from this budget on `run` goes the way of long runs
+LONG = 12000
 # so many runs go on side by side: their cases and answers fit into the pipes
 TOGETHER = 500
 # a restless run that has come to no new place for so many steps is called anew elsewhere
@@ -98,14 +100,21 @@ def together(first, count, steps, ours, rust, judge):
     return runs, met
 
 
+def budgets(run):
+    """The budgets that the first call of a run is made with: its own, and, where SLEEP or STOP ended it, one that goes the long way."""
+    return [run.budget] if run.report.startswith("stop 0") else [run.budget, max(run.budget, LONG)]
+
+
 def reported(runs, command):
-    """Has the program `run` make the first call of each run. Gives the number of wrong reports."""
-    wrong = 0
+    """Has the program `run` make the first call of each run. Gives how many calls went the long way, and the number of wrong reports."""
+    long, wrong = 0, 0
     for run in runs:
-        done = subprocess.run(command, input=records.budgeted(run.budget, run.start), stdout=subprocess.PIPE)
-        got = done.stdout.decode("latin-1") if done.returncode == 0 else f"status {done.returncode}"
-        if got != run.report:
-            wrong += 1
-            if wrong <= 20:
-                print(f"unexplained: from {run.start[:7].hex()}, budget {run.budget}: `run` reports {got!r}, due is {run.report!r}")
-    return wrong
+        for budget in budgets(run):
+            done = subprocess.run(command, input=records.budgeted(budget, run.start), stdout=subprocess.PIPE)
+            got = done.stdout.decode("latin-1") if done.returncode == 0 else f"status {done.returncode}"
+            long += budget >= LONG
+            if got != run.report:
+                wrong += 1
+                if wrong <= 20:
+                    print(f"unexplained: from {run.start[:7].hex()}, budget {budget}: `run` reports {got!r}, due is {run.report!r}")
+    return long, wrong
