@@ -2,7 +2,7 @@
 -- Assumes nothing.
 use Prim.Native.Nat.{ℕ, zero, suc, _-_, _*_, _/_, _%_, _<_}
 use mathlib.Core.Path.{_≡_, refl, ap, _∙_}
-use mathlib.Core.Bool.{Bool, true, false, cond, not}
+use mathlib.Core.Bool.{Bool, false, cond, not}
 use mathlib.Core.List.{List, [], _∷_}
 use native.Mathlib.Omega.{arith}
 use lib.Dec.{T, eqb, eqb→eq}
@@ -11,23 +11,20 @@ use Rattle.laws.specs.Dispatch.{NoneIn, none-then}
 use Rattle.laws.specs.Table.{tableOf, where-same}
 use Rattle.memory.specs.World.{World}
 use Rattle.memory.specs.Access.Access.{done}
-use Rattle.memory.specs.Access.{Access, then, ask, put, Outcome, outcome, perform, Does}
-use Rattle.memory.proofs.Laws.{chain, ends, ends-at, read-then, put-then, perform-then}
+use Rattle.memory.specs.Access.{Access, then, put, Outcome, outcome, perform, Does}
+use Rattle.memory.proofs.Laws.{chain, ends, put-then, perform-then}
 use Rattle.editions.specs.declared.Edition.{Edition}
 use Rattle.processor.specs.Record.{withA, produced}
 use Rattle.processor.specs.declared.Processor.{Processor}
 use Rattle.processor.specs.declared.Produced.{Produced}
 use Rattle.modes.specs.Stack.{pull, raised}
-use Rattle.modes.specs.Modes.{addressed}
-use Rattle.modes.specs.declared.Addressed.{Addressed}
 use Rattle.instructions.specs.Rows.{Operation, Mode, Row, row, rowOf}
 use Rattle.instructions.specs.Rows.Operation.{nop}
 use Rattle.instructions.specs.Rows.Mode.{implied}
 use Rattle.instructions.specs.Gather.{gatherOf}
-use Rattle.instructions.specs.Effects.{effectOf, registers, effect}
+use Rattle.instructions.specs.Effects.{registers, effect}
 use Rattle.instructions.specs.Step.{commitOf, branchOf, finishOf}
 use Rattle.instructions.specs.declared.Effect.{Effect}
-use Rattle.instructions.specs.declared.Operands.{Operands}
 use Rattle.instructions.specs.declared.Stores.{Stores}
 use Rattle.instructions.specs.declared.Stores.the-variants.{Nothing, Byte}
 use Rattle.registers.specs.Flat.{recordOf, Makes}

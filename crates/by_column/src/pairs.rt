@@ -1,8 +1,6 @@
 // A target with a source; X with memory.
 ghost use Prim.Native.Nat.{_<_, _≤_};
-ghost use mathlib.Core.Path.{_≡_};
 ghost use Rattle.modes.specs.Modes.{addressed};
-ghost use Rattle.instructions.specs.Families.{pairGroup};
 ghost use Rattle.registers.specs.Flat.{recordOf};
 ghost use Rattle.cells.specs.Cells.{Laid, Performs};
 ghost use Rattle.by_column.specs.Columns.{Follows, paired, moved};

@@ -1,6 +1,5 @@
 // Words of the direct page; MOV d,d.
 ghost use Prim.Native.Nat.{_<_, _≤_};
-ghost use mathlib.Core.Path.{_≡_};
 ghost use Rattle.cells.specs.Cells.{Laid, Performs};
 ghost use Rattle.registers.specs.Flat.{recordOf};
 ghost use Rattle.by_column.specs.Columns.{Follows, wordGroup, Leaves, wordStepped};

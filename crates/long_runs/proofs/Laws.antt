@@ -21,7 +21,6 @@ use Rattle.modes.specs.Addresses.{onward}
 use Rattle.modes.specs.Modes.{fetch}
 use Rattle.instructions.specs.Gather.{gatherOf}
 use Rattle.instructions.specs.Rows.{rowOf}
-use Rattle.instructions.specs.Effects.{effectOf}
 use Rattle.instructions.specs.Runs.{runOf}
 use Rattle.instructions.specs.Step.{readFor, beginOf, finishOf, madeOf, stepOf}
 use Rattle.instructions.specs.declared.Begun.{Begun}
@@ -29,7 +28,6 @@ use Rattle.instructions.specs.declared.Operands.{Operands}
 use Rattle.by_column.specs.Columns.{rowDoes, opcodeAt}
 use Rattle.by_column.proofs.Laws.{found-then}
 use Rattle.long_runs.specs.Runs.{takenOf}
-use Rattle.long_runs.specs.declared.Taken.{Taken}
 
 -- What is made of a result on the way is made of it in the end.
 made-on-the-way : {A B C : Type 0} (p : Access A) (make : A → B) (f : B → Access C) (w : World)

@@ -1,5 +1,5 @@
 -- What flat registers stand for: the register record. A flag is told by the byte that set it.
-use Prim.Native.Nat.{ℕ, _/_, _%_}
+use Prim.Native.Nat.{_/_, _%_}
 use mathlib.Core.Path.{_≡_}
 use lib.Dec.{leb, eqb}
 use Rattle.waking.specs.States.{stateOf}
