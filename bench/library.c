@@ -1,6 +1,5 @@
 /* A run by the static library: the program `run`'s input (the edition, four bytes of budget, low first, seven register bytes, the memory)
- * from standard input; the stop and the steps to standard output, as `run` prints them. Unlike `run` it keeps page counts beside the maps.
- * bench/measure counts its instructions. */
+ * from standard input; the stop and the steps to standard output, as `run` prints them. bench/measure counts its instructions. */
 #include <stdint.h>
 #include "spc700.h"
 
@@ -17,7 +16,6 @@ static struct {
 /* the record's seven bytes, and awake behind them */
 static uint8_t registers[SPC700_REGISTERS];
 static uint8_t reads[SPC700_MAP], writes[SPC700_MAP];
-static uint16_t read_pages[SPC700_PAGES], write_pages[SPC700_PAGES];
 
 /* Whether standard input held the whole input. */
 static int received(void)
@@ -44,8 +42,7 @@ int main(void)
     for (size_t i = 0; i < sizeof input.record; i++)
         registers[i] = input.record[i];
     uint64_t answer = spc700_run(registers, sizeof registers, input.edition, budget, input.memory, sizeof input.memory,
-                                 reads, sizeof reads, writes, sizeof writes,
-                                 read_pages, SPC700_PAGES, write_pages, SPC700_PAGES);
+                                 reads, sizeof reads, writes, sizeof writes);
     if (spc700_refusal(answer)) {
         printf("library: refused %d\n", spc700_refusal(answer));
         return 1;

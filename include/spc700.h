@@ -1,5 +1,5 @@
-/* The SPC700 for C and C++: one step, a run, a wake, a count of marks, the marks of a page, what differs between two memories, blanked
- * images, one instruction's text, SPC files and state records.
+/* The SPC700 for C and C++: one step, a run, a wake, a count of marks, what differs between two memories, blanked images, one
+ * instruction's text, SPC files and state records.
  *
  * The functions are those of the proved crate `exports`. `rt staticlib exports` writes them to target/staticlib/libexports.a, for
  * programs on x86-64 Linux:
@@ -9,7 +9,7 @@
  * Of other libraries they use C's memcpy alone. They allocate nothing and keep nothing between two calls.
  *
  * What a call is lent. Every region is two arguments: a pointer to its first element, then how many elements it has. They are bytes; only
- * the counts of spc700_counts are 32-bit numbers, and the rows of page counts and the row of spc700_differences have 16-bit numbers.
+ * the counts of spc700_counts are 32-bit numbers, and the row of spc700_differences has 16-bit numbers.
  *   - The pointer is never NULL, also where the length is 0, it is aligned as its type asks, and as many elements as the length says
  *     belong to the caller.
  *   - No two regions of one call overlap.
@@ -18,14 +18,14 @@
  * and the text of spc700_text and the row of spc700_differences may have any length, so what is told there is taken.
  *
  * What a call answers: one number, which spc700_refusal, spc700_stop and spc700_number below take apart.
- *   bits 0 to 31    the number: steps, bytes of text, stretches, addresses, or the count of a page; else 0
+ *   bits 0 to 31    the number: steps, bytes of text, stretches, or addresses; else 0
  *   bits 32 to 39   the stop of a step or a run, or whether a mark is touched; else 0
  *   bits 40 to 47   the refusal: 0, or why the call was refused
  *   bits 48 to 63   0
  * A refused call changes no byte that it was lent, and its stop and number are 0.
  *
  * In Rust, declare the functions in an `extern "C"` block: uint8_t * is *mut u8, const uint8_t * is *const u8, uint16_t * is *mut u16,
- * const uint16_t * is *const u16, uint32_t * is *mut u32, size_t is usize.
+ * uint32_t * is *mut u32, size_t is usize.
  */
 #ifndef SPC700_H
 #define SPC700_H
@@ -37,12 +37,11 @@
 extern "C" {
 #endif
 
-/* How many bytes registers, memory, each map, an SPC file and a state record have, how many numbers a row of page counts has, how many a
- * count of marks gives, and how many are room enough for the differences between any two memories. */
+/* How many bytes registers, memory, each map, an SPC file and a state record have, how many numbers a count of marks gives, and how many
+ * are room enough for the differences between any two memories. */
 #define SPC700_REGISTERS 8
 #define SPC700_MEMORY 65536
 #define SPC700_MAP 8192
-#define SPC700_PAGES 256
 #define SPC700_FILE 66048
 #define SPC700_RECORD 65543
 #define SPC700_COUNTS 3
@@ -63,7 +62,6 @@ extern "C" {
 /* Refusals. Where a call could be refused for several reasons, the one that stands first in its own list of refusals below is answered. */
 #define SPC700_WRONG_MEMORY 1    /* memory is not 65,536 bytes */
 #define SPC700_WRONG_MAP 2       /* a map is not 8,192 bytes */
-#define SPC700_WRONG_PAGES 2     /* a row of page counts is not 256 numbers, or a step or a run finds that it is not that of its map */
 #define SPC700_NO_ROOM 3         /* the text is longer than its buffer, or the stretches are more than the row has room for */
 #define SPC700_CUT 4             /* fewer bytes than the instruction has */
 #define SPC700_WRONG_REGISTERS 6 /* the registers are not 8 bytes, or the last of them is above 2 */
@@ -87,37 +85,23 @@ extern "C" {
 
 /* Takes one step if the registers are awake; else it takes none, and nothing changes.
  *
- * registers     A X Y SP PC-low PC-high PSW and the state, one byte each; PSW is N V P B H I Z C from bit 7 to bit 0. The state is 0, 1 or
- *               2: awake, slept or stopped. Begin with 0. The step leaves them as they are after it: SLEEP sets the state to 1, STOP to 2,
- *               and no other instruction changes it.
- * edition       1 or 2, of the pointer rule.
- * memory        the byte of each address. The step stores in it.
- * reads         a map: address k is bit k mod 8 of byte k div 8. The step marks each address that it reads while `writes` lacks it.
- * writes        a map, too. The step marks each address that it stores to. No call clears a mark: start with maps of zeros.
- * read_pages    the page counts of `reads`, a row of 256 numbers (SPC700_PAGES): of each page, how many of its addresses the map marks. A
- *               page is 256 addresses: address k is in page k div 256. Where a mark appears, the step makes the number of its page one
- *               more. The length counts numbers, not bytes: `sizeof read_pages` is 512, and is refused.
- * write_pages   the page counts of `writes`, likewise.
- *
- * How rows begin. Those of maps of zeros are rows of zeros. Who begins in the middle, with maps that have marks, has spc700_pages make the
- * rows. From then on every step and run takes what the one before it left; who changes a map by himself has its row made anew. What a row
- * is for: spc700_page tells at once how much of a page is marked, without a walk of the map.
- *
- * What rows cost. A row that differs from its map's counts, be it by one at one page, is refused, also where no step is to be taken. So
- * every accepted call has walked both maps, 16,384 bytes, before its first step: COST-OF-TEST machine instructions, many times what the
- * step itself takes. Who steps in a loop should rather make a run of many steps, which tests its rows once.
+ * registers   A X Y SP PC-low PC-high PSW and the state, one byte each; PSW is N V P B H I Z C from bit 7 to bit 0. The state is 0, 1 or 2:
+ *             awake, slept or stopped. Begin with 0. The step leaves them as they are after it: SLEEP sets the state to 1, STOP to 2, and
+ *             no other instruction changes it.
+ * edition     1 or 2, of the pointer rule.
+ * memory      the byte of each address. The step stores in it.
+ * reads       a map: address k is bit k mod 8 of byte k div 8. The step marks each address that it reads while `writes` lacks it.
+ * writes      a map, too. The step marks each address that it stores to. No call clears a mark: start with maps of zeros.
  *
  * Answers the stop, and as the number the steps taken: 1, or 0 where the registers were not awake. SLEEP and STOP count as steps. No later
  * call goes on behind them until spc700_wake was called: that the next one goes on behind SLEEP, as it did once, is withdrawn.
- * Refusals: 6, 9, 1, 2 (maps and rows). */
+ * Refusals: 6, 9, 1, 2. */
 uint64_t spc700_step(
     uint8_t *registers, size_t registers_length,
     uint8_t edition,
     uint8_t *memory, size_t memory_length,
     uint8_t *reads, size_t reads_length,
-    uint8_t *writes, size_t writes_length,
-    uint16_t *read_pages, size_t read_pages_length,
-    uint16_t *write_pages, size_t write_pages_length);
+    uint8_t *writes, size_t writes_length);
 
 /* Takes steps until `budget` of them are taken (stop 0), SLEEP was executed (stop 1) or STOP was executed (stop 2), whichever comes
  * first; SLEEP or STOP as the last step of the budget is stop 1 or 2. Regions and edition are those of spc700_step.
@@ -127,21 +111,17 @@ uint64_t spc700_step(
  * stop and 0 steps, and a run that is cut into parts, each from what the one before it left, is the run in one with the steps of all.
  *
  * A call takes some 132 KB of stack, whatever the budget: 128 KB are a row of 65,536 cells of 16 bits, on which a run with a budget of 12,000
- * or more is made. Such a run lays memory and maps out in the row before its first step and puts them back behind its last one, and then
- * makes both rows of page counts anew from the maps. That costs about as much as 8,000 to 11,000 steps made the other way, also where SLEEP
- * or STOP ends it early; a step then costs less than a third of what it costs in shorter runs. So make long runs, and give a run that you
- * expect to be short a small budget. The answer is the same, and so is what is left. Whatever the budget, a call tests its rows once,
- * before its first step: spc700_step says what that costs.
- * Refusals: 6, 9, 1, 2 (maps and rows). */
+ * or more is made. Such a run lays memory and maps out in the row before its first step and puts them back behind its last one, which costs
+ * about as much as 8,000 to 11,000 steps made the other way, also where SLEEP or STOP ends it early; a step then costs less than a third of
+ * what it costs in shorter runs. So make long runs, and give a run that you expect to be short a small budget. The answer is the same.
+ * Refusals: 6, 9, 1, 2. */
 uint64_t spc700_run(
     uint8_t *registers, size_t registers_length,
     uint8_t edition,
     uint32_t budget,
     uint8_t *memory, size_t memory_length,
     uint8_t *reads, size_t reads_length,
-    uint8_t *writes, size_t writes_length,
-    uint16_t *read_pages, size_t read_pages_length,
-    uint16_t *write_pages, size_t write_pages_length);
+    uint8_t *writes, size_t writes_length);
 
 /* Wakes: sets the state of the registers to 0, awake, whichever it was, and changes no other byte. A step or a run then goes on at PC,
  * which SLEEP and STOP leave behind themselves. What would wake the part comes from outside and is not built here: whoever calls this
@@ -168,35 +148,6 @@ uint64_t spc700_counts(
     const uint8_t *reads, size_t reads_length,
     const uint8_t *writes, size_t writes_length,
     uint32_t *counts, size_t counts_length);
-
-/* Tells how many addresses of a page are marked, by one look at the row: a view of the memory can ask at every redraw.
- *
- * row    a row of page counts, as spc700_step keeps it beside a map. It stays as it is.
- * page   0 to 255: the addresses from 256 * page to 256 * page + 255.
- *
- * Answers as the number what the row has for the page. In every row that an accepted step, run or spc700_pages left this is how many
- * addresses of the page are marked in the map beside it, 0 to 256. Of another row it is whatever stands there: no map is looked at.
- *
- * How much of page 12 was read, 0C00 to 0CFF, and how much of it was stored to:
- *
- *     spc700_number(spc700_page(read_pages, SPC700_PAGES, 12))
- *     spc700_number(spc700_page(write_pages, SPC700_PAGES, 12))
- *
- * Refusals: 2. */
-uint64_t spc700_page(
-    const uint16_t *row, size_t row_length,
-    uint8_t page);
-
-/* Makes the row of page counts of a map, for who begins in the middle, with a map and no row: steps and runs keep their rows themselves.
- *
- * map   a map, as spc700_step keeps them. It stays as it is.
- * row   256 numbers, all of which the call writes, whatever they held.
- *
- * Answers 0: stop and number are 0, too. The call walks the map: who asks for page after page keeps the row, and calls spc700_page.
- * Refusals: 2. */
-uint64_t spc700_pages(
-    const uint8_t *map, size_t map_length,
-    uint16_t *row, size_t row_length);
 
 /* Compares two memories address by address, and writes first and last address of every stretch at which they differ, in ascending order.
  * Each stretch is as long as possible: at least one address at which they are equal stands between two of them.

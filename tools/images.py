@@ -1,11 +1,7 @@
-"""Memories, maps and rows for the scripts that make cases of them, and runs of the library on two memories, held against each other."""
-import array
-
+"""Memories and maps for the scripts that make cases of them, and runs of the library on two memories, held against each other."""
 from library import lent, number
 
-MEMORY, MAP, PAGES = 65536, 8192, 256
-# NOP for SLEEP and STOP: a memory of such bytes ends no run
-ENDLESS = bytes.maketrans(b"\xef\xff", b"\x00\x00")
+MEMORY, MAP = 65536, 8192
 
 
 # ---- maps: eight addresses to a byte, the lowest of them in the bit of value 1
@@ -33,23 +29,6 @@ def map_of(addresses):
     return bytes(made)
 
 
-# ---- rows: 16-bit numbers, how many addresses of each page of 256 a map marks
-
-
-def pages_of(map_):
-    """The row of a map, counted here and not by the library: a page is 32 bytes of it. It has 256 numbers whatever the map's length."""
-    pages = (map_[32 * page:32 * page + 32] for page in range(PAGES))
-    return array.array("H", [bin(int.from_bytes(page, "little")).count("1") for page in pages])
-
-
-def with_rows(reads, writes):
-    """Both maps and their rows, as a step and a run are lent them."""
-    return reads, writes, pages_of(reads), pages_of(writes)
-
-
-CLEAR = with_rows(bytes(MAP), bytes(MAP))
-
-
 # ---- random ones, of the script's own generator
 
 
@@ -61,18 +40,6 @@ def random_addresses(rng):
         low = rng.choice([0, MEMORY - length, *(rng.randrange(MEMORY) for _ in range(20))])
         found.update(range(low, min(low + length, MEMORY)))
     return found
-
-
-def random_map(rng):
-    """Some stretches of marks, or all but these, or marks at about half of all addresses, one here and one there."""
-    some = random_addresses(rng)
-    return rng.choice([map_of(some), map_of(set(range(MEMORY)) - some), rng.randbytes(MAP)])
-
-
-def random_image(rng):
-    """Random bytes; of two images about one has no SLEEP and no STOP, which end most runs on random bytes soon."""
-    image = rng.randbytes(MEMORY)
-    return rng.choice([image, image.translate(ENDLESS)])
 
 
 def changed(rng, memory, addresses):
@@ -92,9 +59,10 @@ def random_registers(rng, state=0):
 
 
 def played(library, registers, edition, budget, memory):
-    """What a run from clear maps answers, the registers, maps and rows that it leaves, and the memory that it leaves."""
-    answer, left, _, _, after, *marks = library.call(b"n", registers, number(edition), number(budget), memory, *CLEAR)
-    return (answer, left, *marks), after
+    """What a run from clear maps answers, and the registers, memory and maps that it leaves."""
+    given = registers, number(edition), number(budget), memory, bytes(MAP), bytes(MAP)
+    answer, left, _, _, after, reads, writes = library.call(b"n", *given)
+    return (answer, left, reads, writes), after
 
 
 def untouched_elsewhere(image, after, stored):

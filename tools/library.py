@@ -1,5 +1,4 @@
 """The library's calls for a script that makes the cases: tests/c/calls.c makes them, and is compiled here."""
-import array
 import pathlib
 import subprocess
 import sys
@@ -17,11 +16,6 @@ def number(value):
 def lent(region):
     """A region, bytes or an array of numbers, as the program is lent it and gives it back: eight more bytes, which no call may touch."""
     return bytes(region) + BEHIND
-
-
-def unlent(region, left):
-    """What a call left of a region, without the bytes behind it: an array where one was lent."""
-    return array.array(region.typecode, left[:-len(BEHIND)]) if isinstance(region, array.array) else left[:-len(BEHIND)]
 
 
 def case(kind, *regions):

@@ -21,7 +21,7 @@ struct region {
     } as;
 };
 
-static struct region lent[8];
+static struct region lent[6];
 
 /* a region as two arguments, and as the number that it is */
 #define LENT(i) lent[i].as.bytes, lent[i].told
@@ -67,18 +67,15 @@ static int regions(char kind)
     case 'r':
     case 'f':
     case 's':
-    case 'p':
-    case 'm':
         return 2;
     case 'w':
     case 'b':
         return 3;
     case 'd':
-        return 5;
     case 't':
-        return 7;
+        return 5;
     case 'n':
-        return 8;
+        return 6;
     default:
         return 0;
     }
@@ -101,14 +98,10 @@ static uint64_t call(char kind)
         return spc700_blank(LENT(0), LENT(1), (uint8_t)NUMBER(2));
     case 'k':
         return spc700_wake(LENT(0));
-    case 'p':
-        return spc700_page(ROW(0), (uint8_t)NUMBER(1));
-    case 'm':
-        return spc700_pages(LENT(0), ROW(1));
     case 't':
-        return spc700_step(LENT(0), (uint8_t)NUMBER(1), LENT(2), LENT(3), LENT(4), ROW(5), ROW(6));
+        return spc700_step(LENT(0), (uint8_t)NUMBER(1), LENT(2), LENT(3), LENT(4));
     default:
-        return spc700_run(LENT(0), (uint8_t)NUMBER(1), NUMBER(2), LENT(3), LENT(4), LENT(5), ROW(6), ROW(7));
+        return spc700_run(LENT(0), (uint8_t)NUMBER(1), NUMBER(2), LENT(3), LENT(4), LENT(5));
     }
 }
 

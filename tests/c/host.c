@@ -15,7 +15,6 @@ static struct {
     uint8_t head[HEAD], chip[ROW], memory[MEMORY], reads[MAP], writes[MAP], fetched[MAP], made[MAP];
 } packet;
 static uint8_t step_reads[MAP], step_writes[MAP];
-static uint16_t read_pages[SPC700_PAGES], write_pages[SPC700_PAGES];
 
 static struct timer {
     int on, target, ticks, count;
@@ -178,17 +177,6 @@ static void devices_after(unsigned named)
     }
 }
 
-/* A step by the library, from maps and rows of zeros. */
-static uint64_t clear_step(uint8_t *registers)
-{
-    memset(step_reads, 0, MAP);
-    memset(step_writes, 0, MAP);
-    memset(read_pages, 0, sizeof read_pages);
-    memset(write_pages, 0, sizeof write_pages);
-    return spc700_step(registers, 8, packet.head[0], packet.memory, MEMORY, step_reads, MAP, step_writes, MAP,
-                       read_pages, SPC700_PAGES, write_pages, SPC700_PAGES);
-}
-
 static int step(void)
 {
     uint8_t *registers = packet.head + 10;
@@ -196,7 +184,10 @@ static int step(void)
     unsigned pc = (unsigned)number_at(registers + 4, 2), named = packet.memory[0xF2] & 127u, rom_on = packet.memory[0xF1] >> 7;
     int opcode = packet.memory[pc];
     char digit = COSTS[opcode / 16][opcode % 16];
-    if (spc700_refusal(clear_step(registers)))
+    memset(step_reads, 0, MAP);
+    memset(step_writes, 0, MAP);
+    uint64_t answer = spc700_step(registers, 8, packet.head[0], packet.memory, MEMORY, step_reads, MAP, step_writes, MAP);
+    if (spc700_refusal(answer))
         return 0;
     uint32_t cost = (uint32_t)(digit == 'C' ? 12 : digit - '0') - (is_passed_by(opcode, pc) ? 2u : 0u);
     rom |= rom_on && read_rom();

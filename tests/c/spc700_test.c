@@ -1,29 +1,27 @@
-/* The static library as a C program sees it: steps, runs, wakes, counts, pages and texts, every refusal of these calls, and that a refused
- * call changes nothing. (The calls on SPC files are tried by tests/files, the comparison by tests/differences, blanking by tests/blanking,
- * runs in parts by tests/waking, and page counts on random machines by tests/pages.) Prints a line for each check and a last line that
- * counts them; exit status 0 only if all hold. tests/exports compiles and runs it. */
+/* The static library as a C program sees it: steps, runs, wakes, counts and texts, every refusal of these calls, and that a refused call
+ * changes nothing. (The calls on SPC files are tried by tests/files, the comparison by tests/differences, blanking by tests/blanking, and
+ * runs in parts by tests/waking.) Prints a line for each check and a last line that counts them; exit status 0 only if all hold.
+ * tests/exports compiles and runs it. */
 #include "spc700.h"
 
 /* Declared, not included: a compiler for x86-64 may come without the headers of a C library for it. */
 int printf(const char *format, ...);
 int snprintf(char *to, size_t room, const char *format, ...);
 
-/* All that a call is lent. Each region has an element more than it needs, so that too long a region can be lent, too. */
+/* All that a call is lent. Each region has a byte more than it needs, so that too long a region can be lent, too. */
 struct lent {
     uint8_t registers[SPC700_REGISTERS + 1];
     uint8_t memory[SPC700_MEMORY + 1];
     uint8_t reads[SPC700_MAP + 1];
     uint8_t writes[SPC700_MAP + 1];
-    uint16_t read_pages[SPC700_PAGES + 1];
-    uint16_t write_pages[SPC700_PAGES + 1];
 };
 
 /* The lengths that a call is told. */
 struct lengths {
-    size_t registers, memory, reads, writes, read_pages, write_pages;
+    size_t registers, memory, reads, writes;
 };
 
-static const struct lengths RIGHT = {SPC700_REGISTERS, SPC700_MEMORY, SPC700_MAP, SPC700_MAP, SPC700_PAGES, SPC700_PAGES};
+static const struct lengths RIGHT = {SPC700_REGISTERS, SPC700_MEMORY, SPC700_MAP, SPC700_MAP};
 static struct lent now, before;
 static int checks, failures;
 
@@ -53,7 +51,7 @@ static int unchanged(void) { return same(&now, &before, sizeof now); }
 
 static uint64_t answer(uint64_t refusal, uint64_t stop, uint64_t number) { return refusal << 40 | stop << 32 | number; }
 
-/* A=7D X=Y=0 SP=EF PC=0200 PSW=01, awake, clear maps with rows of zeros, and memory zero but for three bytes of code at 0200. */
+/* A=7D X=Y=0 SP=EF PC=0200 PSW=01, awake, clear maps, and memory zero but for three bytes of code at 0200. */
 static void start(uint8_t first, uint8_t second, uint8_t third)
 {
     static const uint8_t registers[SPC700_REGISTERS] = {0x7D, 0, 0, 0xEF, 0x00, 0x02, 0x01};
@@ -71,14 +69,12 @@ static uint8_t edition = SPC700_EDITION_CRATE;
 
 static uint64_t step(struct lengths n)
 {
-    return spc700_step(now.registers, n.registers, edition, now.memory, n.memory, now.reads, n.reads, now.writes, n.writes,
-                       now.read_pages, n.read_pages, now.write_pages, n.write_pages);
+    return spc700_step(now.registers, n.registers, edition, now.memory, n.memory, now.reads, n.reads, now.writes, n.writes);
 }
 
 static uint64_t run(struct lengths n, uint32_t budget)
 {
-    return spc700_run(now.registers, n.registers, edition, budget, now.memory, n.memory, now.reads, n.reads, now.writes, n.writes,
-                      now.read_pages, n.read_pages, now.write_pages, n.write_pages);
+    return spc700_run(now.registers, n.registers, edition, budget, now.memory, n.memory, now.reads, n.reads, now.writes, n.writes);
 }
 
 /* The row that a count is lent: a number more than it needs, as with the regions above. */
@@ -239,51 +235,29 @@ static void products(void)
     check("step: MUL of every two bytes", holds);
 }
 
-/* The least budget of a run that goes the long way. */
-#define LONG 12000
-
-/* As all stands now, a step and runs that are told these lengths are refused with this number, and change nothing. */
-static int refused(struct lengths n, uint64_t refusal)
-{
-    static const uint32_t budgets[] = {0, 9, LONG};
-    before = now;
-    int holds = step(n) == answer(refusal, 0, 0);
-    for (size_t i = 0; i < sizeof budgets / sizeof budgets[0]; i++)
-        holds &= run(n, budgets[i]) == answer(refusal, 0, 0);
-    return holds && unchanged();
-}
-
+/* A step and a run that are told these lengths are refused with this number, and change nothing. */
 static void refuses(const char *what, struct lengths n, uint64_t refusal)
 {
     start(0xC4, 0x10, 0xEF);
-    check(what, refused(n, refusal));
+    check(what, step(n) == answer(refusal, 0, 0) && run(n, 9) == answer(refusal, 0, 0) && unchanged());
 }
 
 static void refusals(void)
 {
-    refuses("refused 6: no registers", (struct lengths){0, 65536, 8192, 8192, 256, 256}, SPC700_WRONG_REGISTERS);
-    refuses("refused 6: 7 bytes of registers", (struct lengths){7, 65536, 8192, 8192, 256, 256}, SPC700_WRONG_REGISTERS);
-    refuses("refused 6: 9 bytes of registers", (struct lengths){9, 65536, 8192, 8192, 256, 256}, SPC700_WRONG_REGISTERS);
-    refuses("refused 1: no memory", (struct lengths){8, 0, 8192, 8192, 256, 256}, SPC700_WRONG_MEMORY);
-    refuses("refused 1: 65,535 bytes of memory", (struct lengths){8, 65535, 8192, 8192, 256, 256}, SPC700_WRONG_MEMORY);
-    refuses("refused 1: 65,537 bytes of memory", (struct lengths){8, 65537, 8192, 8192, 256, 256}, SPC700_WRONG_MEMORY);
-    refuses("refused 2: 8,191 bytes of the read map", (struct lengths){8, 65536, 8191, 8192, 256, 256}, SPC700_WRONG_MAP);
-    refuses("refused 2: 8,193 bytes of the read map", (struct lengths){8, 65536, 8193, 8192, 256, 256}, SPC700_WRONG_MAP);
-    refuses("refused 2: 8,191 bytes of the written map", (struct lengths){8, 65536, 8192, 8191, 256, 256}, SPC700_WRONG_MAP);
-    refuses("refused 2: 8,193 bytes of the written map", (struct lengths){8, 65536, 8192, 8193, 256, 256}, SPC700_WRONG_MAP);
-    refuses("refused 2: no read row", (struct lengths){8, 65536, 8192, 8192, 0, 256}, SPC700_WRONG_PAGES);
-    refuses("refused 2: 255 numbers of the read row", (struct lengths){8, 65536, 8192, 8192, 255, 256}, SPC700_WRONG_PAGES);
-    refuses("refused 2: 257 numbers of the read row", (struct lengths){8, 65536, 8192, 8192, 257, 256}, SPC700_WRONG_PAGES);
-    refuses("refused 2: no written row", (struct lengths){8, 65536, 8192, 8192, 256, 0}, SPC700_WRONG_PAGES);
-    refuses("refused 2: 255 numbers of the written row", (struct lengths){8, 65536, 8192, 8192, 256, 255}, SPC700_WRONG_PAGES);
-    refuses("refused 2: 257 numbers of the written row", (struct lengths){8, 65536, 8192, 8192, 256, 257}, SPC700_WRONG_PAGES);
-    refuses("refused 6 before 1", (struct lengths){7, 65535, 8192, 8192, 256, 256}, SPC700_WRONG_REGISTERS);
-    refuses("refused 6 before 2", (struct lengths){7, 65536, 8191, 8191, 256, 256}, SPC700_WRONG_REGISTERS);
-    refuses("refused 1 before 2", (struct lengths){8, 65535, 8191, 8191, 256, 256}, SPC700_WRONG_MEMORY);
-    refuses("refused 6 before 1 and 2", (struct lengths){9, 65537, 8193, 8193, 256, 256}, SPC700_WRONG_REGISTERS);
-    refuses("refused 6 before 2 for the rows", (struct lengths){7, 65536, 8192, 8192, 255, 257}, SPC700_WRONG_REGISTERS);
-    refuses("refused 1 before 2 for the rows", (struct lengths){8, 65537, 8192, 8192, 257, 255}, SPC700_WRONG_MEMORY);
-    refuses("refused 2: both maps and both rows", (struct lengths){8, 65536, 8191, 8193, 255, 257}, SPC700_WRONG_MAP);
+    refuses("refused 6: no registers", (struct lengths){0, 65536, 8192, 8192}, SPC700_WRONG_REGISTERS);
+    refuses("refused 6: 7 bytes of registers", (struct lengths){7, 65536, 8192, 8192}, SPC700_WRONG_REGISTERS);
+    refuses("refused 6: 9 bytes of registers", (struct lengths){9, 65536, 8192, 8192}, SPC700_WRONG_REGISTERS);
+    refuses("refused 1: no memory", (struct lengths){8, 0, 8192, 8192}, SPC700_WRONG_MEMORY);
+    refuses("refused 1: 65,535 bytes of memory", (struct lengths){8, 65535, 8192, 8192}, SPC700_WRONG_MEMORY);
+    refuses("refused 1: 65,537 bytes of memory", (struct lengths){8, 65537, 8192, 8192}, SPC700_WRONG_MEMORY);
+    refuses("refused 2: 8,191 bytes of the read map", (struct lengths){8, 65536, 8191, 8192}, SPC700_WRONG_MAP);
+    refuses("refused 2: 8,193 bytes of the read map", (struct lengths){8, 65536, 8193, 8192}, SPC700_WRONG_MAP);
+    refuses("refused 2: 8,191 bytes of the written map", (struct lengths){8, 65536, 8192, 8191}, SPC700_WRONG_MAP);
+    refuses("refused 2: 8,193 bytes of the written map", (struct lengths){8, 65536, 8192, 8193}, SPC700_WRONG_MAP);
+    refuses("refused 6 before 1", (struct lengths){7, 65535, 8192, 8192}, SPC700_WRONG_REGISTERS);
+    refuses("refused 6 before 2", (struct lengths){7, 65536, 8191, 8191}, SPC700_WRONG_REGISTERS);
+    refuses("refused 1 before 2", (struct lengths){8, 65535, 8191, 8191}, SPC700_WRONG_MEMORY);
+    refuses("refused 6 before 1 and 2", (struct lengths){9, 65537, 8193, 8193}, SPC700_WRONG_REGISTERS);
 }
 
 static int marked(const uint8_t *map, unsigned at) { return map[at / 8] >> at % 8 & 1; }
@@ -344,12 +318,11 @@ static void editions(void)
     refuses("refused 9: edition 3", RIGHT, SPC700_NO_EDITION);
     edition = 255;
     refuses("refused 9: edition 255", RIGHT, SPC700_NO_EDITION);
-    refuses("refused 6 before 9", (struct lengths){7, 65536, 8192, 8192, 256, 256}, SPC700_WRONG_REGISTERS);
-    refuses("refused 9 before 1", (struct lengths){8, 65535, 8192, 8192, 256, 256}, SPC700_NO_EDITION);
-    refuses("refused 9 before 2", (struct lengths){8, 65536, 8191, 8193, 256, 256}, SPC700_NO_EDITION);
-    refuses("refused 9 before 2 for the rows", (struct lengths){8, 65536, 8192, 8192, 255, 257}, SPC700_NO_EDITION);
+    refuses("refused 6 before 9", (struct lengths){7, 65536, 8192, 8192}, SPC700_WRONG_REGISTERS);
+    refuses("refused 9 before 1", (struct lengths){8, 65535, 8192, 8192}, SPC700_NO_EDITION);
+    refuses("refused 9 before 2", (struct lengths){8, 65536, 8191, 8193}, SPC700_NO_EDITION);
     edition = SPC700_EDITION_PART;
-    refuses("refused 1 in edition 2", (struct lengths){8, 65535, 8192, 8192, 256, 256}, SPC700_WRONG_MEMORY);
+    refuses("refused 1 in edition 2", (struct lengths){8, 65535, 8192, 8192}, SPC700_WRONG_MEMORY);
     edition = SPC700_EDITION_CRATE;
 }
 
@@ -409,202 +382,6 @@ static void counts(void)
     refuses_count("counts: refused 2: 8,191 bytes of the written map", 8192, 8191, 3, SPC700_WRONG_MAP);
     refuses_count("counts: refused 2: 8,193 bytes of the written map", 8192, 8193, 3, SPC700_WRONG_MAP);
     refuses_count("counts: refused 6 before 2", 8191, 8193, 2, SPC700_WRONG_COUNTS);
-}
-
-/* How many addresses of a page a map marks, by a walk of them. */
-static unsigned marks_in(const uint8_t *map, unsigned page)
-{
-    unsigned marks = 0;
-    for (unsigned at = 256 * page; at < 256 * page + 256; at++)
-        marks += marked(map, at);
-    return marks;
-}
-
-/* Each page that is asked of a row is what a walk of the map finds. */
-static int is_row_of(const uint16_t *pages, const uint8_t *map)
-{
-    int holds = 1;
-    for (unsigned page = 0; page < SPC700_PAGES; page++)
-        holds &= spc700_page(pages, SPC700_PAGES, (uint8_t)page) == answer(0, 0, marks_in(map, page));
-    return holds;
-}
-
-static int rows_agree(void) { return is_row_of(now.read_pages, now.reads) && is_row_of(now.write_pages, now.writes); }
-
-/* Code that goes on and on: it copies bytes from 1000 on to 4000 on, page after page, and keeps its two pointers at 0010 and 0012. */
-static void start_copying(void)
-{
-    /* MOV A,[$10]+Y / MOV [$12]+Y,A / INC Y / BNE -7 / INC $11 / INC $13 / BRA -13 */
-    static const uint8_t code[] = {0xF7, 0x10, 0xD7, 0x12, 0xFC, 0xD0, 0xF9, 0xAB, 0x11, 0xAB, 0x13, 0x2F, 0xF3};
-    start(0, 0, 0);
-    for (size_t i = 0; i < sizeof code; i++)
-        now.memory[0x200 + i] = code[i];
-    now.memory[0x11] = 0x10;
-    now.memory[0x13] = 0x40;
-}
-
-/* A run from clear maps and rows of zeros, and a second one from what it left: behind each the rows agree, and a full page has 256. */
-static int keeps_rows(uint32_t budget)
-{
-    start_copying();
-    int holds = 1;
-    for (int i = 0; i < 2; i++)
-        holds &= run(RIGHT, budget) == answer(0, 0, budget) && rows_agree();
-    holds &= spc700_page(now.read_pages, SPC700_PAGES, 0x10) == answer(0, 0, 256);
-    return holds && spc700_page(now.write_pages, SPC700_PAGES, 0x40) == answer(0, 0, 256);
-}
-
-static int steps_keep_rows(void)
-{
-    start_copying();
-    int holds = 1;
-    for (int i = 0; i < 30; i++)
-        holds &= step(RIGHT) == answer(0, 0, 1) && rows_agree();
-    return holds;
-}
-
-/* A page of a row that is told this length is refused with 2 and answered with 0, whatever stands in the row. */
-static int refuses_page(size_t length)
-{
-    int holds = 1;
-    fill(now.read_pages, 0xA5, sizeof now.read_pages);
-    before = now;
-    for (unsigned page = 0; page < SPC700_PAGES; page++)
-        holds &= spc700_page(now.read_pages, length, (uint8_t)page) == answer(SPC700_WRONG_PAGES, 0, 0);
-    return holds && unchanged();
-}
-
-static void page_counts(void)
-{
-    check("pages: a short run and a second one", keeps_rows(3000));
-    check("pages: a long run and a second one", keeps_rows(LONG));
-    check("pages: steps", steps_keep_rows());
-    check("page: refused 2: no row", refuses_page(0));
-    check("page: refused 2: a row of 255", refuses_page(255));
-    check("page: refused 2: a row of 257", refuses_page(257));
-
-    int any = 1;
-    for (unsigned page = 0; page < SPC700_PAGES; page++) {
-        now.read_pages[page] = (uint16_t)(65535 - 99 * page);
-        any &= spc700_page(now.read_pages, SPC700_PAGES, (uint8_t)page) == answer(0, 0, 65535 - 99 * page);
-    }
-    check("page: of any row what stands there", any);
-}
-
-/* The row that is made of a map, and a number behind it: A5 in all of it beforehand. */
-static uint16_t made[SPC700_PAGES + 1];
-
-static uint64_t make(const uint8_t *map, size_t map_length, size_t length)
-{
-    fill(made, 0xA5, sizeof made);
-    before = now;
-    return spc700_pages(map, map_length, made, length);
-}
-
-/* The row that is made of a map is the row that a run left beside it. */
-static int makes(const uint8_t *map, const uint16_t *pages)
-{
-    return make(map, SPC700_MAP, SPC700_PAGES) == 0 && same(made, pages, 2 * SPC700_PAGES) && made[SPC700_PAGES] == 0xA5A5 && unchanged();
-}
-
-/* It is refused with 2 where it is told these lengths, and the row stays as it was. */
-static int refuses_pages(size_t map_length, size_t length)
-{
-    static uint16_t given[SPC700_PAGES + 1];
-    fill(given, 0xA5, sizeof given);
-    uint64_t got = make(now.reads, map_length, length);
-    return got == answer(SPC700_WRONG_PAGES, 0, 0) && same(made, given, sizeof made) && unchanged();
-}
-
-static void rows_of_maps(void)
-{
-    static const uint32_t budgets[] = {0, 3000, LONG};
-    int each = 1;
-    start_copying();
-    for (size_t i = 0; i < sizeof budgets / sizeof budgets[0]; i++) {
-        each &= run(RIGHT, budgets[i]) == answer(0, 0, budgets[i]);
-        each &= makes(now.reads, now.read_pages) && makes(now.writes, now.write_pages);
-    }
-    check("pages: the row of a map is the one that a run left beside it", each);
-    fill(now.reads, 0xFF, sizeof now.reads);
-    each = make(now.reads, SPC700_MAP, SPC700_PAGES) == 0;
-    for (unsigned page = 0; page < SPC700_PAGES; page++)
-        each &= made[page] == 256;
-    check("pages: 256 a page where all is marked", each);
-    check("pages: refused 2: no map", refuses_pages(0, 256));
-    check("pages: refused 2: 8,191 bytes of the map", refuses_pages(8191, 256));
-    check("pages: refused 2: 8,193 bytes of the map", refuses_pages(8193, 256));
-    check("pages: refused 2: no row", refuses_pages(8192, 0));
-    check("pages: refused 2: a row of 255", refuses_pages(8192, 255));
-    check("pages: refused 2: a row of 257", refuses_pages(8192, 257));
-    check("pages: refused 2: both", refuses_pages(8193, 255));
-}
-
-/* Marks in both maps, and the right rows. */
-static void start_in_the_middle(void)
-{
-    start_copying();
-    run(RIGHT, 3000);
-}
-
-/* Every number of a row wrong, by one more, by one less, and in the high byte alone; put right again, all of it is accepted. */
-static int refuses_wrong_counts(uint16_t *pages)
-{
-    static const uint16_t more[] = {1, 65535, 256};
-    int holds = 1;
-    start_in_the_middle();
-    for (size_t i = 0; i < SPC700_PAGES * sizeof more / sizeof more[0]; i++) {
-        uint16_t *wrong = pages + i % SPC700_PAGES, right = *wrong;
-        *wrong = (uint16_t)(right + more[i / SPC700_PAGES]);
-        holds &= refused(RIGHT, SPC700_WRONG_PAGES);
-        *wrong = right;
-    }
-    return holds && run(RIGHT, 9) == answer(0, 0, 9);
-}
-
-static void exchange_rows(void)
-{
-    for (unsigned page = 0; page < SPC700_PAGES; page++) {
-        uint16_t read = now.read_pages[page];
-        now.read_pages[page] = now.write_pages[page];
-        now.write_pages[page] = read;
-    }
-}
-
-/* A record at rest takes no step, but its rows are looked at. */
-static int rests_with_right_rows_alone(uint8_t opcode, uint8_t stop)
-{
-    start(opcode, 0, 0);
-    int holds = step(RIGHT) == answer(0, stop, 1) && rests(stop);
-    now.read_pages[2]++;
-    holds &= refused(RIGHT, SPC700_WRONG_PAGES);
-    now.read_pages[2]--;
-    return holds && rests(stop);
-}
-
-static void wrong_rows(void)
-{
-    check("refused 2: each number of the read row wrong", refuses_wrong_counts(now.read_pages));
-    check("refused 2: each number of the written row wrong", refuses_wrong_counts(now.write_pages));
-    start_in_the_middle();
-    exchange_rows();
-    check("refused 2: rows exchanged", refused(RIGHT, SPC700_WRONG_PAGES));
-    exchange_rows();
-    check("rows exchanged twice are accepted", run(RIGHT, LONG) == answer(0, 0, LONG) && rows_agree());
-    start_in_the_middle();
-    fill(now.write_pages, 0, sizeof now.write_pages);
-    check("refused 2: a row of zeros beside a map with marks", refused(RIGHT, SPC700_WRONG_PAGES));
-
-    start_copying();
-    now.write_pages[255] = 1;
-    check("refused 6 before 2 for a wrong row", refused((struct lengths){7, 65536, 8192, 8192, 256, 256}, SPC700_WRONG_REGISTERS));
-    check("refused 1 before 2 for a wrong row", refused((struct lengths){8, 65535, 8192, 8192, 256, 256}, SPC700_WRONG_MEMORY));
-    check("refused 2: a wrong map and a wrong row", refused((struct lengths){8, 65536, 8191, 8192, 256, 256}, SPC700_WRONG_MAP));
-    edition = 3;
-    check("refused 9 before 2 for a wrong row", refused(RIGHT, SPC700_NO_EDITION));
-    edition = SPC700_EDITION_CRATE;
-    check("rest: behind SLEEP with right rows alone", rests_with_right_rows_alone(0xEF, SPC700_STOP_SLEEP));
-    check("rest: behind STOP with right rows alone", rests_with_right_rows_alone(0xFF, SPC700_STOP_STOP));
 }
 
 /* spc700_text on a buffer of 80 bytes of A5, told another length, answers so and leaves these first bytes and A5 behind them. */
@@ -697,9 +474,6 @@ int main(void)
     refusals();
     editions();
     counts();
-    page_counts();
-    rows_of_maps();
-    wrong_rows();
     texts();
     branches();
     printf("exports: %d of %d checks hold\n", checks - failures, checks);

@@ -5,7 +5,7 @@ use Rattle.laws.specs.Dispatch.{NoneIn, none_then}
 use Rattle.laws.specs.Table.{table_of, where_same}
 use Rattle.memory.specs.World.{World}
 use Rattle.memory.specs.Access.Access.{done}
-use Rattle.memory.specs.Access.{Access, then, put, Outcome, outcome, plain, perform, Does}
+use Rattle.memory.specs.Access.{Access, then, put, Outcome, outcome, perform, Does}
 use Rattle.memory.proofs.Laws.{chain, ends, put_then, perform_then}
 use Rattle.editions.specs.declared.Edition.{Edition}
 use Rattle.processor.specs.Record.{with_a, produced}
@@ -34,7 +34,7 @@ found_then find k f {w} e g =
     record { is = (chain (λ a. then (k a) f) e g).is ∙ regrouped }
   where
     regrouped : perform (then find (λ a. then (k a) f)) w ≡ perform (then (then find k) f) w
-    regrouped = rw (perform_then plain find (λ a. then (k a) f) w, perform_then plain (then find k) f w, perform_then plain find k w, perform_then)
+    regrouped = rw (perform_then find (λ a. then (k a) f) w, perform_then (then find k) f w, perform_then find k w, perform_then)
 
 -- An effect that is known by its parts.
 pub registers_alone : {e : Effect} {cpu : Processor} {w : World} → e.stores ≡ Nothing → e.taken ≡ false → cpu ≡ e.cpu

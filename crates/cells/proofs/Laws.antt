@@ -17,9 +17,9 @@ use Rattle.laws.specs.Bytes.{Bytes}
 use Rattle.marks.specs.Maps.{is_marked}
 use Rattle.marks.proofs.Laws.{length_marked, bytes_marked}
 use Rattle.memory.specs.World.{World, world, Sized, seen, kept}
-use Rattle.memory.specs.Access.{ask, put, outcome, perform, perform_on, Does}
-use Rattle.cells.specs.Cells.{byte_of, eight_of, world_of}
-use Rattle.laws.specs.Values.{values, length_values, value_at, are_values}
+use Rattle.memory.specs.Access.{ask, put, outcome, perform, Does}
+use Rattle.cells.specs.Cells.{byte_of, eight_of, values, world_of}
+use Rattle.cells.proofs.Values.{length_values, value_at, are_values}
 use Rattle.cells.proofs.Marks.{map_marks, map_bytes, map_is}
 use Rattle.cells.proofs.Marks.{marked_here, marked_elsewhere, unless_here, unless_elsewhere, unless_length, unless_bytes}
 use Rattle.cells.proofs.Bits.{read_set, stored_clear, still_clear, only_read, its_byte, its_read, its_stored}
@@ -175,7 +175,7 @@ module _ (cells : List ℕ) (a : ℕ) (laid : length cells ≡ 65536) (h : a < 6
 
   -- So these are what performing a read, or a store, does.
   does-read : {left : World} → left ≡ seen a (world_of cells) → Does (ask a) (world_of cells) (outcome (get_or cells a 0 % 256) left)
-  unfolding perform_on
+  unfolding perform
   does-read e = record { is = rw (e, (holds cells a h).byte) }
 
   pub first_read : get_or cells a 0 / 256 % 4 ≡ 0
@@ -187,7 +187,7 @@ module _ (cells : List ℕ) (a : ℕ) (laid : length cells ≡ 65536) (h : a < 6
 
   pub one_store : (byte : ℕ) → byte < 256
       → Does (put a byte) (world_of cells) (outcome tt (world_of (set cells a (get_or cells a 0 / 256 % 2 * 256 + 512 + byte))))
-  unfolding perform_on
+  unfolding perform
   one_store byte small = record { is = rw (stored_there byte small) }
 
 -- ---- the way in

@@ -16,8 +16,8 @@ use borrow.Author.Tests.{eq-eqb, ne_eqb}
 use Rattle.laws.specs.Bytes.{Bytes}
 use Rattle.marks.specs.Maps.{is_marked, marked, marked_unless}
 use Rattle.marks.proofs.Laws.{marked_is, length_marked, bytes_marked}
-use Rattle.cells.specs.Cells.{mark_of, eight_of}
-use Rattle.laws.specs.Values.{values, length_values, value_at, values_below}
+use Rattle.cells.specs.Cells.{mark_of, eight_of, values}
+use Rattle.cells.proofs.Values.{length_values, value_at, values_below}
 
 -- ---- a map is told by its marks
 

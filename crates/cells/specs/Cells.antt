@@ -1,7 +1,6 @@
 -- What a row of cells stands for: memory and both maps. A long run works on cells; this page says how they are read.
-use Rattle.std.specs.Prelude.{ℕ, ◌+◌, ◌*◌, ◌/◌, ◌%◌, ◌^◌, ◌≡◌, List, length, get_or}
+use Rattle.std.specs.Prelude.{ℕ, zero, suc, ◌+◌, ◌*◌, ◌/◌, ◌%◌, ◌^◌, ◌≡◌, List, [], ◌∷◌, length, get_or}
 use Rattle.laws.specs.Lent.{Slice, Lent}
-use Rattle.laws.specs.Values.{values}
 use Rattle.memory.specs.World.{World, world}
 use Rattle.memory.specs.Access.{Access, outcome, Does}
 
@@ -24,6 +23,11 @@ eight_of bit cells i =
     + mark_of bit cells (i * 8 + 6) * 4
     + mark_of bit cells (i * 8 + 7) * 8)
     * 16
+
+-- the values of a function at n numbers, from one on
+unfoldable pub values : ℕ → ℕ → (ℕ → ℕ) → List ℕ
+values zero from f = []
+values (suc n) from f = f from ∷ values n (suc from) f
 
 -- The memory and the two maps.
 unfoldable pub world_of : List ℕ → World

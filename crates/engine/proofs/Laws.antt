@@ -3,20 +3,16 @@
 use Prim.Native.Nat.{ℕ}
 use mathlib.Core.Path.{◌≡◌, ap, sym, ◌∙◌}
 use mathlib.Core.Bool.{Bool}
-use mathlib.Core.List.{List}
 use borrow.Author.Tests.{eq-eqb, ne_eqb}
 use Rattle.waking.specs.States.{number_of}
-use Rattle.memory.specs.World.{World, Sized, world}
-use Rattle.memory.specs.Access.{Outcome, outcome, DoesOn}
-use Rattle.memory.specs.Paged.{Paged, counting, paged_of}
+use Rattle.memory.specs.World.{World, Sized}
+use Rattle.memory.specs.Access.{Outcome, outcome, Does}
 use Rattle.editions.specs.Editions.{edition_of}
 use Rattle.editions.specs.declared.Edition.{Edition}
 use Rattle.processor.specs.declared.Processor.{Processor}
 use Rattle.instructions.specs.Step.{commit_of, branch_of}
 use Rattle.instructions.specs.declared.Stores.{Stores}
-use Rattle.instructions.specs.Runs.{counted_step, run_on}
 use Rattle.runs.specs.Run.{Progress}
-use Rattle.runs.proofs.Rows.{run_but_rows}
 use Rattle.long_runs.specs.Runs.{taken_of}
 use Rattle.long_runs.specs.declared.Taken.{Taken}
 use Rattle.engine.specs.Entry.{ran, accepted, refusal_of, run_of, run_answer}
@@ -35,16 +31,6 @@ module _ (number budget : ℕ) (cpu : Processor) (w : World) {r : ℕ} (e : r �
       → q ≡ accepted (run_of edition budget cpu w) → q ≡ run_answer number budget cpu w
   accepts z named a = rw (a, named, ← e, eq-eqb _ _ z)
 
--- What the steps give with a row, whatever it holds, is but for the row what they give without.
-pub without_row : (edition : Edition) (budget : ℕ) (cpu : Processor) {r : Ran}
-    (memory reads writes row memory₂ reads₂ writes₂ row₂ : List ℕ)
-    → outcome r (paged_of memory₂ reads₂ writes₂ row₂) ≡ accepted (run_on counting edition budget cpu (paged_of memory reads writes row))
-    → outcome r (world memory₂ reads₂ writes₂) ≡ accepted (run_of edition budget cpu (world memory reads writes))
-unfolding paged_of
-without_row edition budget cpu memory reads writes row memory₂ reads₂ writes₂ row₂ e =
-    let same = run_but_rows (counted_step edition) budget cpu (paged_of memory reads writes row) in
-    ap (λ (o : Outcome Paged Ran). outcome o.result o.left.world) e ∙ rw (same.result, same.world)
-
 -- What a long run gives, answered.
 pub answers : {t : Taken} {left : World} {o : Outcome World (Progress Processor)} {stop : ℕ}
     → outcome t left ≡ taken_of o → stop ≡ number_of t.cpu.state → outcome (ran 0 t.cpu t.steps stop) left ≡ accepted o
@@ -53,10 +39,10 @@ answers e told =
     (ap (λ (x : Outcome World Taken). outcome (ran 0 x.result.cpu x.result.steps (number_of x.result.cpu.state)) x.left) e)
 
 -- A phase goes by the case that is known: of what is to be stored, and of whether a branch is taken.
-pub commit_as : (s case : Stores) (cpu : Processor) {w : Paged} {o : Outcome Paged Processor}
-    → s ≡ case → DoesOn counting (commit_of case cpu) w o → DoesOn counting (commit_of s cpu) w o
+pub commit_as : (s case : Stores) (cpu : Processor) {w : World} {o : Outcome World Processor}
+    → s ≡ case → Does (commit_of case cpu) w o → Does (commit_of s cpu) w o
 commit_as s case cpu e does = rw e does
 
-pub branch_as : (b case : Bool) (cpu : Processor) {w : Paged} {o : Outcome Paged Processor}
-    → b ≡ case → DoesOn counting (branch_of case cpu) w o → DoesOn counting (branch_of b cpu) w o
+pub branch_as : (b case : Bool) (cpu : Processor) {w : World} {o : Outcome World Processor}
+    → b ≡ case → Does (branch_of case cpu) w o → Does (branch_of b cpu) w o
 branch_as b case cpu e does = rw e does

@@ -1,5 +1,4 @@
--- The step and the run of who keeps no page counts: refusals 9, 1 and 2, and else what the definition gives (`counted_step` and `run_of`, of
--- crate instructions).
+-- The public step and run: refusals 9, 1 and 2, and else what the definition gives (`counted_step` and `run_of`, of crate instructions).
 use Rattle.std.specs.Prelude.{ℕ, cond, eqb, length}
 use Rattle.memory.specs.World.{World}
 use Rattle.memory.specs.Access.{Outcome, perform}
@@ -15,7 +14,7 @@ abbrev pub ran : ℕ → Processor → ℕ → ℕ → Ran
 ran refusal cpu steps stop = record { refusal = refusal; cpu = cpu; steps = steps; stop = stop }
 
 -- Refused: the record as given, 0 steps, stop 0; nothing changes.
-abbrev pub refused : {W : Type 0} → ℕ → Processor → W → Outcome W Ran
+abbrev pub refused : ℕ → Processor → World → Outcome World Ran
 refused refusal cpu w = record { result = ran refusal cpu 0 0; left = w }
 
 -- Accepted: refusal 0, the record and the steps, and as the stop the number of the state that the record is in: 1 where SLEEP, 2 where STOP
@@ -23,7 +22,7 @@ refused refusal cpu w = record { result = ran refusal cpu 0 0; left = w }
 abbrev pub answer_of : Progress Processor → Ran
 answer_of p = ran 0 p.regs p.steps (number_of p.regs.state)
 
-abbrev pub accepted : {W : Type 0} → Outcome W (Progress Processor) → Outcome W Ran
+abbrev pub accepted : Outcome World (Progress Processor) → Outcome World Ran
 accepted o = record { result = answer_of o.result; left = o.left }
 
 -- 9 exactly if the number of the edition is neither 1 nor 2; then 1 exactly if memory is not 65,536 bytes; then 2 exactly if a map is not
@@ -36,14 +35,11 @@ refusal_of number w =
     1)
     9
 
--- What a call answers, and what it leaves, by its refusal, where the definition gives `o`.
-abbrev pub unless_refused : {W : Type 0} → ℕ → Processor → W → Outcome W (Progress Processor) → Outcome W Ran
-unless_refused refusal cpu w o = cond (eqb refusal 0) (accepted o) (refused refusal cpu w)
-
+-- What a call answers, and what it leaves, where the definition gives `o`.
 abbrev pub answered : ℕ → Processor → World → Outcome World (Progress Processor) → Outcome World Ran
-answered number cpu w o = unless_refused (refusal_of number w) cpu w o
+answered number cpu w o = cond (eqb (refusal_of number w) 0) (accepted o) (refused (refusal_of number w) cpu w)
 
--- What the step and the run answer, and what they leave. They are given the number of the edition.
+-- What the public step and the public run answer, and what they leave. They are given the number of the edition.
 abbrev pub step_answer : ℕ → Processor → World → Outcome World Ran
 step_answer number cpu w = answered number cpu w (perform (counted_step (edition_of number) cpu) w)
 

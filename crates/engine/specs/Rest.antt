@@ -6,7 +6,7 @@ use Rattle.std.proofs.Math.Decide.{ℕ_discrete}
 use Rattle.waking.specs.States.{number_of, is_awake}
 use Rattle.waking.specs.Theorems.{awake_is_zero}
 use Rattle.memory.specs.World.{World, byte_at, seen}
-use Rattle.memory.specs.Access.{Outcome, outcome, perform, perform_on}
+use Rattle.memory.specs.Access.{Outcome, outcome, perform}
 use Rattle.memory.specs.Inside.{Bytes}
 use Rattle.editions.specs.Editions.{is_edition, edition_of}
 use Rattle.editions.specs.declared.Edition.{Edition}
@@ -26,7 +26,7 @@ use Rattle.engine.specs.declared.Ran.{Ran}
 -- Which instructions put a record to rest: by the opcode that a step reads at PC, on a memory of bytes.
 pub state_after_step : (edition : Edition) (cpu : Processor) (w : World) → Bytes w
     → (perform (step_of edition cpu) w).result.state ≡ state_after (byte_at cpu.pc w) cpu.state
-unfolding perform_on
+unfolding perform
 state_after_step edition cpu w bytes =
     let opcode = byte_at cpu.pc w in
     rw (opcode_first edition cpu)

@@ -3,7 +3,7 @@
 use Rattle.std.specs.Prelude.{ℕ, ◌+◌, ◌≤◌, ◌<◌, Bool, true, false, ◌≡◌}
 use Rattle.std.proofs.Common.{ap, sym}
 use Rattle.memory.specs.World.{World, Sized}
-use Rattle.memory.specs.Access.{plain, perform, perform_on}
+use Rattle.memory.specs.Access.{perform}
 use Rattle.memory.specs.Theorems.{Kept, marks_stay, kept_itself, kept_trans}
 use Rattle.memory.proofs.Laws.{perform_then}
 use Rattle.waking.specs.States.{is_awake}
@@ -25,12 +25,12 @@ awake cpu = is_awake cpu.state
 module _ (edition : Edition) where
   -- A record that is awake takes one step,
   pub one_step : (cpu : Processor) (w : World) → is_awake cpu.state ≡ true → (perform (counted_step edition cpu) w).result.steps ≡ 1
-  unfolding counted_step perform_on
+  unfolding counted_step perform
   one_step cpu w e = rw (e, perform_then)
 
   -- and one that is not takes none, and nothing changes.
   pub no_step : (cpu : Processor) (w : World) → is_awake cpu.state ≡ false → perform (counted_step edition cpu) w ≡ rested cpu w
-  no_step = loop.no_step plain edition
+  no_step = loop.no_step edition
 
   -- A run takes no more steps than its budget, and all of it where it leaves the record awake.
   pub within_budget : (budget : ℕ) (cpu : Processor) (w : World) → (run_of edition budget cpu w).result.steps ≤ budget

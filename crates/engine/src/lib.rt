@@ -1,12 +1,8 @@
-// The engine: a step and a run of the processor on lent memory and maps. With page counts beside the maps they are crate paged's, which
-// calls the loops of this one.
+// The engine: a step and a run of the processor on lent memory and maps.
 mod phases;
 
-ghost use Rattle.std.specs.Prelude.{◌≡◌, leb};
-ghost use Rattle.memory.specs.Access.{outcome};
-ghost use Rattle.memory.specs.Contracts.{before, paged_before, paged_after, Ready, Yields};
-ghost use Rattle.memory.specs.Paged.{counting};
-ghost use Rattle.instructions.specs.Runs.{run_on};
+ghost use Rattle.std.specs.Prelude.{◌≡◌};
+ghost use Rattle.memory.specs.Contracts.{before, Ready, Yields};
 ghost use Rattle.engine.specs.Entry.{ran, accepted, refusal_of, run_of, step_answer, run_answer};
 
 use editions::Edition;
@@ -21,8 +17,7 @@ pub struct Ran {
     pub stop: u8,
 }
 
-// A call that is refused: the record as given, no step.
-pub fn refused(refusal: u8, cpu: Processor) -> Ran
+fn refused(refusal: u8, cpu: Processor) -> Ran
     ensures { result ≡ ran refusal cpu 0 0 }
 {
     Ran {
@@ -34,7 +29,7 @@ pub fn refused(refusal: u8, cpu: Processor) -> Ran
 }
 
 // The number of the first test that the edition and the lengths of memory and maps do not pass, or 0.
-pub fn refusal_of(edition: u8, memory: &[u8], reads: &[u8], writes: &[u8]) -> u8
+fn refusal_of(edition: u8, memory: &[u8], reads: &[u8], writes: &[u8]) -> u8
     ensures { result ≡ refusal_of edition (before memory reads writes) }
 {
     if !editions::is_edition(edition) {
@@ -52,39 +47,8 @@ pub fn refusal_of(edition: u8, memory: &[u8], reads: &[u8], writes: &[u8]) -> u8
     0
 }
 
-// Steps while budget is left and the record is awake, on memory and maps whose lengths are known. The row has the page counts of both maps,
-// or is empty.
-pub fn take_steps(
-    cpu: Processor,
-    edition: Edition,
-    memory: &mut [u8],
-    reads: &mut [u8],
-    writes: &mut [u8],
-    row: &mut [u16],
-    budget: u32,
-) -> Ran
-    requires { Ready memory reads writes }
-    ensures { outcome result (paged_after memory reads writes row)
-        ≡ accepted (run_on counting edition budget cpu (paged_before memory reads writes row)) }
-{
-    let mut next = cpu;
-    let mut left: u32 = budget;
-    while left > 0 && next.is_awake() {
-        next = phases::instruction(next, edition, memory, reads, writes, row);
-        left = left - 1;
-    }
-    let steps = budget - left;
-    let state = next.state;
-    Ran {
-        refusal: 0,
-        cpu: next,
-        steps,
-        stop: waking::number_of(state),
-    }
-}
-
-// The same steps on flat registers and cells, at a cost before the first and behind the last; it keeps no page counts.
-pub fn take_long(
+// Steps while budget is left and the record is awake, on memory and maps whose lengths are known.
+fn take_steps(
     cpu: Processor,
     edition: Edition,
     memory: &mut [u8],
@@ -95,22 +59,20 @@ pub fn take_long(
     requires { Ready memory reads writes }
     ensures { Yields (λ w. accepted (run_of edition budget cpu w)) memory reads writes result }
 {
-    let taken = long_runs::run(cpu, edition, memory, reads, writes, budget);
-    let next = taken.cpu;
+    let mut next = cpu;
+    let mut left: u32 = budget;
+    while left > 0 && next.is_awake() {
+        next = phases::instruction(next, edition, memory, reads, writes);
+        left = left - 1;
+    }
+    let steps = budget - left;
     let state = next.state;
     Ran {
         refusal: 0,
         cpu: next,
-        steps: taken.steps,
+        steps,
         stop: waking::number_of(state),
     }
-}
-
-// Whether a run is to go the long way, by its budget: where that begins to pay (docs/DECISIONS.md).
-pub fn is_long(budget: u32) -> bool
-    ensures { result ≡ leb 12000 budget }
-{
-    budget >= 12000
 }
 
 // A run by steps on the record, memory and maps.
@@ -129,11 +91,10 @@ fn run_short(
         return refused(refusal, cpu);
     }
     let edition = editions::edition_of(edition);
-    let mut no_counts = [0u16; 0];
-    take_steps(cpu, edition, memory, reads, writes, &mut no_counts, budget)
+    take_steps(cpu, edition, memory, reads, writes, budget)
 }
 
-// A run by steps on flat registers and cells: the same answer.
+// A run by steps on flat registers and cells: the same answer, at a cost before the first step and behind the last.
 fn run_long(
     cpu: Processor,
     edition: u8,
@@ -149,7 +110,15 @@ fn run_long(
         return refused(refusal, cpu);
     }
     let edition = editions::edition_of(edition);
-    take_long(cpu, edition, memory, reads, writes, budget)
+    let taken = long_runs::run(cpu, edition, memory, reads, writes, budget);
+    let next = taken.cpu;
+    let state = next.state;
+    Ran {
+        refusal: 0,
+        cpu: next,
+        steps: taken.steps,
+        stop: waking::number_of(state),
+    }
 }
 
 // A run in one edition, given by its number: as many steps as the budget has (stop 0), or fewer where SLEEP (stop 1) or STOP (stop 2) ends
@@ -165,10 +134,11 @@ pub fn run(
 ) -> Ran
     ensures { Yields (run_answer edition budget cpu) memory reads writes result }
 {
-    if is_long(budget) {
-        return run_long(cpu, edition, memory, reads, writes, budget);
+    // where the long way begins to pay: docs/DECISIONS.md
+    if budget < 12000 {
+        return run_short(cpu, edition, memory, reads, writes, budget);
     }
-    run_short(cpu, edition, memory, reads, writes, budget)
+    run_long(cpu, edition, memory, reads, writes, budget)
 }
 
 // One step: a run of budget 1, so that the step loop is the one caller of `instruction`, which is then compiled into it

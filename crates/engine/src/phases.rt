@@ -8,20 +8,13 @@ use instructions::{Begun, Effect, Stores};
 use processor::Processor;
 
 // The opcode, and what its instruction reads before it stores.
-fn begin(
-    cpu: Processor,
-    edition: Edition,
-    memory: &[u8],
-    reads: &mut [u8],
-    writes: &[u8],
-    row: &mut [u16],
-) -> Begun
+fn begin(cpu: Processor, edition: Edition, memory: &[u8], reads: &mut [u8], writes: &[u8]) -> Begun
     requires { Ready memory reads writes }
-    ensures { Performs (begin_of edition cpu) memory reads writes row result }
+    ensures { Performs (begin_of edition cpu) memory reads writes result }
 {
-    let fetched = modes::fetch_u8(cpu, memory, reads, writes, row);
+    let fetched = modes::fetch_u8(cpu, memory, reads, writes);
     let next = fetched.cpu;
-    let operands = gather::gather(next, edition, memory, reads, writes, row, fetched.byte);
+    let operands = gather::gather(next, edition, memory, reads, writes, fetched.byte);
     Begun {
         opcode: fetched.byte,
         operands,
@@ -34,26 +27,25 @@ fn commit(
     memory: &mut [u8],
     reads: &[u8],
     writes: &mut [u8],
-    row: &mut [u16],
     stores: Stores,
 ) -> Processor
     requires { Ready memory reads writes }
-    ensures { Performs (commit_of stores cpu) memory reads writes row result }
+    ensures { Performs (commit_of stores cpu) memory reads writes result }
 {
     match stores {
         Stores::Nothing => cpu,
         Stores::Byte(at, byte) => {
-            memory::store(memory, reads, writes, row, at, byte);
+            memory::store(memory, reads, writes, at, byte);
             cpu
         }
         Stores::Word(at, low, next, high) => {
-            memory::store(memory, reads, writes, row, at, low);
-            memory::store(memory, reads, writes, row, next, high);
+            memory::store(memory, reads, writes, at, low);
+            memory::store(memory, reads, writes, next, high);
             cpu
         }
-        Stores::Push(byte) => modes::push_to_stack_u8(cpu, memory, reads, writes, row, byte),
-        Stores::Call(target) => modes::call(cpu, memory, reads, writes, row, target),
-        Stores::Break(byte, target) => interrupt(cpu, memory, reads, writes, row, byte, target),
+        Stores::Push(byte) => modes::push_to_stack_u8(cpu, memory, reads, writes, byte),
+        Stores::Call(target) => modes::call(cpu, memory, reads, writes, target),
+        Stores::Break(byte, target) => interrupt(cpu, memory, reads, writes, byte, target),
     }
 }
 
@@ -63,52 +55,38 @@ fn interrupt(
     memory: &mut [u8],
     reads: &[u8],
     writes: &mut [u8],
-    row: &mut [u16],
     byte: u8,
     target: u16,
 ) -> Processor
     requires { Ready memory reads writes }
-    ensures { Performs (commit_of (Stores.Break byte target) cpu) memory reads writes row result }
+    ensures { Performs (commit_of (Stores.Break byte target) cpu) memory reads writes result }
 {
-    let pushed = modes::push_to_stack_u16(cpu, memory, reads, writes, row, cpu.pc);
-    let mut next = modes::push_to_stack_u8(pushed, memory, reads, writes, row, byte);
+    let pushed = modes::push_to_stack_u16(cpu, memory, reads, writes, cpu.pc);
+    let mut next = modes::push_to_stack_u8(pushed, memory, reads, writes, byte);
     next.pc = target;
     next
 }
 
 // A taken displacement.
-fn branch(
-    cpu: Processor,
-    memory: &[u8],
-    reads: &mut [u8],
-    writes: &[u8],
-    row: &mut [u16],
-    taken: bool,
-) -> Processor
+fn branch(cpu: Processor, memory: &[u8], reads: &mut [u8], writes: &[u8], taken: bool) -> Processor
     requires { Ready memory reads writes }
-    ensures { Performs (branch_of taken cpu) memory reads writes row result }
+    ensures { Performs (branch_of taken cpu) memory reads writes result }
 {
     if taken {
-        return modes::branch_imm(cpu, memory, reads, writes, row);
+        return modes::branch_imm(cpu, memory, reads, writes);
     }
     cpu
 }
 
 // The stores, and then the displacement.
-fn finish(
-    made: Effect,
-    memory: &mut [u8],
-    reads: &mut [u8],
-    writes: &mut [u8],
-    row: &mut [u16],
-) -> Processor
+fn finish(made: Effect, memory: &mut [u8], reads: &mut [u8], writes: &mut [u8]) -> Processor
     requires { Ready memory reads writes }
-    ensures { Performs (finish_of made) memory reads writes row result }
+    ensures { Performs (finish_of made) memory reads writes result }
 {
     let cpu = made.cpu;
     let stores = made.stores;
-    let stored = commit(cpu, memory, reads, writes, row, stores);
-    branch(stored, memory, reads, writes, row, made.taken)
+    let stored = commit(cpu, memory, reads, writes, stores);
+    branch(stored, memory, reads, writes, made.taken)
 }
 
 // A whole instruction.
@@ -118,13 +96,12 @@ pub fn instruction(
     memory: &mut [u8],
     reads: &mut [u8],
     writes: &mut [u8],
-    row: &mut [u16],
 ) -> Processor
     requires { Ready memory reads writes }
-    ensures { Performs (step_of edition cpu) memory reads writes row result }
+    ensures { Performs (step_of edition cpu) memory reads writes result }
 {
-    let begun = begin(cpu, edition, memory, reads, writes, row);
+    let begun = begin(cpu, edition, memory, reads, writes);
     let operands = begun.operands;
     let made = effects::effect_of(begun.opcode, operands);
-    finish(made, memory, reads, writes, row)
+    finish(made, memory, reads, writes)
 }

@@ -2,8 +2,8 @@
 -- Assumes nothing.
 use mathlib.Core.Path.{◌≡◌, refl}
 use Prim.Native.Nat.{ℕ}
-use Rattle.memory.specs.Access.{then, Outcome, outcome, DoesOn}
-use Rattle.memory.specs.Paged.{Paged, counting}
+use Rattle.memory.specs.World.{World}
+use Rattle.memory.specs.Access.{then, Outcome, outcome, Does}
 use Rattle.memory.specs.Access.Access.{done}
 use Rattle.modes.specs.Modes as mode
 use Rattle.instructions.specs.Rows.Mode.{direct, to_direct, direct_x, to_direct_x, direct_y, to_direct_y, absolute, to_absolute, absolute_x, to_absolute_x, absolute_y, to_absolute_y, pointer_x, to_pointer_x, pointer_y, to_pointer_y, at_x, to_x}
@@ -52,10 +52,9 @@ at_register_x = record { find = λ edition cpu. done (mode.indirect cpu.x cpu); 
 
 -- ---- an address that is known by an equation
 
-pub placed_by : (k : ℕ) (f g : Addressed) {w : Paged} {o : Outcome Paged Operands}
-    → f ≡ g → DoesOn counting (placed k f) w o → DoesOn counting (placed k g) w o
+pub placed_by : (k : ℕ) (f g : Addressed) {w : World} {o : Outcome World Operands} → f ≡ g → Does (placed k f) w o → Does (placed k g) w o
 placed_by k f g e does = rw (← e) does
 
-pub aimed_by : (f g : Addressed) {r : Operands} {w : Paged}
-    → f ≡ g → r ≡ operands f.cpu f.at 0 0 0 → DoesOn counting (target g) w (outcome r w)
+pub aimed_by : (f g : Addressed) {r : Operands} {w : World}
+    → f ≡ g → r ≡ operands f.cpu f.at 0 0 0 → Does (target g) w (outcome r w)
 aimed_by f g e is = rw (← e) (ends_at is)

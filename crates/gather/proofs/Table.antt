@@ -15,8 +15,8 @@ use types.Run.{OneOf}
 use Rattle.laws.specs.Below.{below}
 use Rattle.laws.specs.Dispatch.{NoneIn, has_in, held, none_then}
 use Rattle.laws.specs.Table.{table_of, where_same}
-use Rattle.memory.specs.Access.{Access, Outcome, DoesOn, then}
-use Rattle.memory.specs.Paged.{Paged, counting}
+use Rattle.memory.specs.World.{World}
+use Rattle.memory.specs.Access.{Access, Outcome, Does, then}
 use Rattle.processor.specs.declared.Processor.{Processor}
 use Rattle.editions.specs.declared.Edition.{Edition}
 use Rattle.modes.specs.declared.Addressed.{Addressed}
@@ -34,8 +34,8 @@ has_mode : (p : ℕ → Bool) (m : ℕ → Mode) → AllHave p m → {k : ℕ} �
 has_mode p m e {k} h t = where_same 256 p implied (λ k. (row_of k).mode) m e k h.fits t
 
 -- what was read by a row's mode was read by the row
-by_mode : {m : Mode} (edition : Edition) (k : ℕ) (cpu : Processor) {w : Paged} {o : Outcome Paged Operands}
-    → (row_of k).mode ≡ m → DoesOn counting (gather_of edition m k cpu) w o → DoesOn counting (gather_of edition (row_of k).mode k cpu) w o
+by_mode : {m : Mode} (edition : Edition) (k : ℕ) (cpu : Processor) {w : World} {o : Outcome World Operands}
+    → (row_of k).mode ≡ m → Does (gather_of edition m k cpu) w o → Does (gather_of edition (row_of k).mode k cpu) w o
 by_mode edition k cpu e does = rw e does
 
 -- an opcode of a column
@@ -54,21 +54,21 @@ left_over columns c t {k} h none = eqb→eq _ _ (none_then 256 (in_column c) (λ
 
 -- a whole column
 pub column : (c : ℕ) (m : Mode) → AllHave (in_column c) (λ k. m)
-    → (edition : Edition) (k : ℕ) (cpu : Processor) {w : Paged} {o : Outcome Paged Operands} → Fits w8 k → bit_and k 31 ≡ c
-    → DoesOn counting (gather_of edition m k cpu) w o → DoesOn counting (gather_of edition (row_of k).mode k cpu) w o
+    → (edition : Edition) (k : ℕ) (cpu : Processor) {w : World} {o : Outcome World Operands} → Fits w8 k → bit_and k 31 ≡ c
+    → Does (gather_of edition m k cpu) w o → Does (gather_of edition (row_of k).mode k cpu) w o
 column c m e edition k cpu h here = by_mode edition k cpu (has_mode (in_column c) (λ k. m) e h (within c k here))
 
 -- opcodes named in a column's arm
 pub opcodes : (js : List ℕ) (m : Mode) → AllHave (has_key js) (λ k. m)
-    → (edition : Edition) (k : ℕ) (cpu : Processor) {w : Paged} {o : Outcome Paged Operands} → Fits w8 k → OneOf js k
-    → DoesOn counting (gather_of edition m k cpu) w o → DoesOn counting (gather_of edition (row_of k).mode k cpu) w o
+    → (edition : Edition) (k : ℕ) (cpu : Processor) {w : World} {o : Outcome World Operands} → Fits w8 k → OneOf js k
+    → Does (gather_of edition m k cpu) w o → Does (gather_of edition (row_of k).mode k cpu) w o
 opcodes js m e edition k cpu h one = by_mode edition k cpu (has_mode (has_key js) (λ k. m) e h (held js k one))
 
 -- the others of the column
 pub others : (c : ℕ) (kss : List (List ℕ)) (m : Mode) → AllHave (λ k. in_column c k && not (has_in kss k)) (λ k. m)
     → T (below 256 (λ k. has_in kss k || not (has_in kss k)))
-    → (edition : Edition) (k : ℕ) (cpu : Processor) {w : Paged} {o : Outcome Paged Operands} → Fits w8 k → bit_and k 31 ≡ c → NoneIn kss k
-    → DoesOn counting (gather_of edition m k cpu) w o → DoesOn counting (gather_of edition (row_of k).mode k cpu) w o
+    → (edition : Edition) (k : ℕ) (cpu : Processor) {w : World} {o : Outcome World Operands} → Fits w8 k → bit_and k 31 ≡ c → NoneIn kss k
+    → Does (gather_of edition m k cpu) w o → Does (gather_of edition (row_of k).mode k cpu) w o
 others c kss m e t edition k cpu h here none =
     by_mode edition k cpu
     (has_mode (λ k. in_column c k && not (has_in kss k)) (λ k. m) e h
@@ -76,8 +76,8 @@ others c kss m e t edition k cpu h here none =
 
 -- the rows of a column above those of MOV
 pub first_six : (c : ℕ) (m : Mode) → AllHave (λ k. in_column c k && ltb k 192) (λ k. m)
-    → (edition : Edition) (k : ℕ) (cpu : Processor) {w : Paged} {o : Outcome Paged Operands} → Fits w8 k → bit_and k 31 ≡ c → k < 192
-    → DoesOn counting (gather_of edition m k cpu) w o → DoesOn counting (gather_of edition (row_of k).mode k cpu) w o
+    → (edition : Edition) (k : ℕ) (cpu : Processor) {w : World} {o : Outcome World Operands} → Fits w8 k → bit_and k 31 ≡ c → k < 192
+    → Does (gather_of edition m k cpu) w o → Does (gather_of edition (row_of k).mode k cpu) w o
 first_six c m e edition k cpu h here less =
     by_mode edition k cpu
     (has_mode (λ k. in_column c k && ltb k 192) (λ k. m) e h
@@ -104,20 +104,20 @@ by_row place false edition k cpu = place.loads edition k cpu
 
 -- opcodes that pass q
 by_table : (q : ℕ → Bool) (place : Place) → AllHave q (mode_of place)
-    → (edition : Edition) (k : ℕ) (cpu : Processor) {w : Paged} {o : Outcome Paged Operands} → Fits w8 k → T (q k)
-    → DoesOn counting (then (place.find edition cpu) (placed k)) w o → DoesOn counting (gather_of edition (row_of k).mode k cpu) w o
+    → (edition : Edition) (k : ℕ) (cpu : Processor) {w : World} {o : Outcome World Operands} → Fits w8 k → T (q k)
+    → Does (then (place.find edition cpu) (placed k)) w o → Does (gather_of edition (row_of k).mode k cpu) w o
 by_table q place e edition k cpu h t does = by_mode edition k cpu (has_mode q (mode_of place) e h t) (rw (by_row place (store_row k) edition k cpu) does)
 
 -- a whole column
 pub places : (c : ℕ) (place : Place) → AllHave (in_column c) (mode_of place)
-    → (edition : Edition) (k : ℕ) (cpu : Processor) {w : Paged} {o : Outcome Paged Operands} → Fits w8 k → bit_and k 31 ≡ c
-    → DoesOn counting (then (place.find edition cpu) (placed k)) w o → DoesOn counting (gather_of edition (row_of k).mode k cpu) w o
+    → (edition : Edition) (k : ℕ) (cpu : Processor) {w : World} {o : Outcome World Operands} → Fits w8 k → bit_and k 31 ≡ c
+    → Does (then (place.find edition cpu) (placed k)) w o → Does (gather_of edition (row_of k).mode k cpu) w o
 places c place e edition k cpu h here = by_table (in_column c) place e edition k cpu h (within c k here)
 
 -- the last two rows of a column, a store and a load
 pub last_two : (c : ℕ) (place : Place) → AllHave (λ k. in_column c k && not (ltb k 192)) (mode_of place)
-    → (edition : Edition) (k : ℕ) (cpu : Processor) {w : Paged} {o : Outcome Paged Operands} → Fits w8 k → bit_and k 31 ≡ c → 192 ≤ k
-    → DoesOn counting (then (place.find edition cpu) (placed k)) w o → DoesOn counting (gather_of edition (row_of k).mode k cpu) w o
+    → (edition : Edition) (k : ℕ) (cpu : Processor) {w : World} {o : Outcome World Operands} → Fits w8 k → bit_and k 31 ≡ c → 192 ≤ k
+    → Does (then (place.find edition cpu) (placed k)) w o → Does (gather_of edition (row_of k).mode k cpu) w o
 last_two c place e edition k cpu h here more =
     by_table (λ k. in_column c k && not (ltb k 192)) place e edition k cpu h
     (yes_and (in_column c k) (not (ltb k 192)) (within c k here) (rw (le-ltb k 192 more) tt))

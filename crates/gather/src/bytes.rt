@@ -23,48 +23,30 @@ pub fn implied(cpu: Processor) -> Operands
 }
 
 // d: the byte there.
-pub fn direct(
-    cpu: Processor,
-    memory: &[u8],
-    reads: &mut [u8],
-    writes: &[u8],
-    row: &mut [u16],
-) -> Operands
+pub fn direct(cpu: Processor, memory: &[u8], reads: &mut [u8], writes: &[u8]) -> Operands
     requires { Ready memory reads writes }
-    ensures { Performs (plainly direct cpu) memory reads writes row result }
+    ensures { Performs (plainly direct cpu) memory reads writes result }
 {
-    let found = modes::d(cpu, memory, reads, writes, row);
-    load(found, memory, reads, writes, row)
+    let found = modes::d(cpu, memory, reads, writes);
+    load(found, memory, reads, writes)
 }
 
 // d+X: the byte there.
-pub fn direct_x(
-    cpu: Processor,
-    memory: &[u8],
-    reads: &mut [u8],
-    writes: &[u8],
-    row: &mut [u16],
-) -> Operands
+pub fn direct_x(cpu: Processor, memory: &[u8], reads: &mut [u8], writes: &[u8]) -> Operands
     requires { Ready memory reads writes }
-    ensures { Performs (plainly direct_x cpu) memory reads writes row result }
+    ensures { Performs (plainly direct_x cpu) memory reads writes result }
 {
-    let found = modes::dx(cpu, memory, reads, writes, row);
-    load(found, memory, reads, writes, row)
+    let found = modes::dx(cpu, memory, reads, writes);
+    load(found, memory, reads, writes)
 }
 
 // !a: the byte there.
-pub fn absolute(
-    cpu: Processor,
-    memory: &[u8],
-    reads: &mut [u8],
-    writes: &[u8],
-    row: &mut [u16],
-) -> Operands
+pub fn absolute(cpu: Processor, memory: &[u8], reads: &mut [u8], writes: &[u8]) -> Operands
     requires { Ready memory reads writes }
-    ensures { Performs (plainly absolute cpu) memory reads writes row result }
+    ensures { Performs (plainly absolute cpu) memory reads writes result }
 {
-    let found = modes::abs(cpu, memory, reads, writes, row);
-    load(found, memory, reads, writes, row)
+    let found = modes::abs(cpu, memory, reads, writes);
+    load(found, memory, reads, writes)
 }
 
 // A byte alone.
@@ -82,29 +64,17 @@ fn byte_only(read: Produced) -> Operands
 }
 
 // An operand byte.
-pub fn immediate(
-    cpu: Processor,
-    memory: &[u8],
-    reads: &mut [u8],
-    writes: &[u8],
-    row: &mut [u16],
-) -> Operands
+pub fn immediate(cpu: Processor, memory: &[u8], reads: &mut [u8], writes: &[u8]) -> Operands
     requires { Ready memory reads writes }
-    ensures { Performs (plainly immediate cpu) memory reads writes row result }
+    ensures { Performs (plainly immediate cpu) memory reads writes result }
 {
-    byte_only(modes::fetch_u8(cpu, memory, reads, writes, row))
+    byte_only(modes::fetch_u8(cpu, memory, reads, writes))
 }
 
 // A byte from the stack.
-pub fn pulled(
-    cpu: Processor,
-    memory: &[u8],
-    reads: &mut [u8],
-    writes: &[u8],
-    row: &mut [u16],
-) -> Operands
+pub fn pulled(cpu: Processor, memory: &[u8], reads: &mut [u8], writes: &[u8]) -> Operands
     requires { Ready memory reads writes }
-    ensures { Performs (plainly pulled cpu) memory reads writes row result }
+    ensures { Performs (plainly pulled cpu) memory reads writes result }
 {
-    byte_only(modes::pull_from_stack_u8(cpu, memory, reads, writes, row))
+    byte_only(modes::pull_from_stack_u8(cpu, memory, reads, writes))
 }

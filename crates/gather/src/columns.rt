@@ -9,185 +9,122 @@ use instructions::Operands;
 use processor::Processor;
 
 // d,d; in the last two rows MOV !a,X and MOV X,!a.
-pub fn column_09(
-    cpu: Processor,
-    memory: &[u8],
-    reads: &mut [u8],
-    writes: &[u8],
-    row: &mut [u16],
-    op: u8,
-) -> Operands
+pub fn column_09(cpu: Processor, memory: &[u8], reads: &mut [u8], writes: &[u8], op: u8) -> Operands
     requires ready { Ready memory reads writes }
     requires op_value { bit_and op 0x1F ≡ 0x09 }
-    ensures { RowPerforms op cpu memory reads writes row result }
+    ensures { RowPerforms op cpu memory reads writes result }
 {
     if op < 0xC0 {
-        return several::direct_direct(cpu, memory, reads, writes, row);
+        return several::direct_direct(cpu, memory, reads, writes);
     }
-    places::abs(cpu, memory, reads, writes, row, op)
+    places::abs(cpu, memory, reads, writes, op)
 }
 
 // Immediates; pushes and moves between registers, which read nothing.
-pub fn column_0d(
-    cpu: Processor,
-    memory: &[u8],
-    reads: &mut [u8],
-    writes: &[u8],
-    row: &mut [u16],
-    op: u8,
-) -> Operands
+pub fn column_0d(cpu: Processor, memory: &[u8], reads: &mut [u8], writes: &[u8], op: u8) -> Operands
     requires ready { Ready memory reads writes }
     requires op_value { bit_and op 0x1F ≡ 0x0D }
-    ensures { RowPerforms op cpu memory reads writes row result }
+    ensures { RowPerforms op cpu memory reads writes result }
 {
     match op {
         opcodes::MOV_Y_IMM | opcodes::CMP_Y_IMM | opcodes::MOV_X_IMM => bytes::immediate(
-            cpu, memory, reads, writes, row,
+            cpu, memory, reads, writes,
         ),
         _ => bytes::implied(cpu),
     }
 }
 
 // TSET1 and TCLR1; CBNE and DBNZ; pops.
-pub fn column_0e(
-    cpu: Processor,
-    memory: &[u8],
-    reads: &mut [u8],
-    writes: &[u8],
-    row: &mut [u16],
-    op: u8,
-) -> Operands
+pub fn column_0e(cpu: Processor, memory: &[u8], reads: &mut [u8], writes: &[u8], op: u8) -> Operands
     requires ready { Ready memory reads writes }
     requires op_value { bit_and op 0x1F ≡ 0x0E }
-    ensures { RowPerforms op cpu memory reads writes row result }
+    ensures { RowPerforms op cpu memory reads writes result }
 {
     match op {
-        opcodes::TSET1_ABS | opcodes::TCLR1_ABS => bytes::absolute(cpu, memory, reads, writes, row),
-        opcodes::CBNE_D_R | opcodes::DBNZ_D_R => bytes::direct(cpu, memory, reads, writes, row),
-        _ => bytes::pulled(cpu, memory, reads, writes, row),
+        opcodes::TSET1_ABS | opcodes::TCLR1_ABS => bytes::absolute(cpu, memory, reads, writes),
+        opcodes::CBNE_D_R | opcodes::DBNZ_D_R => bytes::direct(cpu, memory, reads, writes),
+        _ => bytes::pulled(cpu, memory, reads, writes),
     }
 }
 
 // BRK, PCALL and RET; MOV d,#i and MOV (X)+,A; the rest reads nothing.
-pub fn column_0f(
-    cpu: Processor,
-    memory: &[u8],
-    reads: &mut [u8],
-    writes: &[u8],
-    row: &mut [u16],
-    op: u8,
-) -> Operands
+pub fn column_0f(cpu: Processor, memory: &[u8], reads: &mut [u8], writes: &[u8], op: u8) -> Operands
     requires ready { Ready memory reads writes }
     requires op_value { bit_and op 0x1F ≡ 0x0F }
-    ensures { RowPerforms op cpu memory reads writes row result }
+    ensures { RowPerforms op cpu memory reads writes result }
 {
     match op {
-        opcodes::BRK => ways::vector_at(cpu, memory, reads, writes, row, 0xFFDE),
-        opcodes::PCALL => ways::upper_page(cpu, memory, reads, writes, row),
-        opcodes::RET => ways::pulled_word(cpu, memory, reads, writes, row),
-        opcodes::MOV_D_IMM => several::immediate_to_direct(cpu, memory, reads, writes, row),
+        opcodes::BRK => ways::vector_at(cpu, memory, reads, writes, 0xFFDE),
+        opcodes::PCALL => ways::upper_page(cpu, memory, reads, writes),
+        opcodes::RET => ways::pulled_word(cpu, memory, reads, writes),
+        opcodes::MOV_D_IMM => several::immediate_to_direct(cpu, memory, reads, writes),
         opcodes::MOV_XINC_A => places::aim(modes::ix(cpu)),
         _ => bytes::implied(cpu),
     }
 }
 
 // d,#i; in the last two rows MOV d,X and MOV X,d.
-pub fn column_18(
-    cpu: Processor,
-    memory: &[u8],
-    reads: &mut [u8],
-    writes: &[u8],
-    row: &mut [u16],
-    op: u8,
-) -> Operands
+pub fn column_18(cpu: Processor, memory: &[u8], reads: &mut [u8], writes: &[u8], op: u8) -> Operands
     requires ready { Ready memory reads writes }
     requires op_value { bit_and op 0x1F ≡ 0x18 }
-    ensures { RowPerforms op cpu memory reads writes row result }
+    ensures { RowPerforms op cpu memory reads writes result }
 {
     if op < 0xC0 {
-        return several::direct_immediate(cpu, memory, reads, writes, row);
+        return several::direct_immediate(cpu, memory, reads, writes);
     }
-    places::d(cpu, memory, reads, writes, row, op)
+    places::d(cpu, memory, reads, writes, op)
 }
 
 // (X),(Y); in the last two rows MOV d+Y,X and MOV X,d+Y.
-pub fn column_19(
-    cpu: Processor,
-    memory: &[u8],
-    reads: &mut [u8],
-    writes: &[u8],
-    row: &mut [u16],
-    op: u8,
-) -> Operands
+pub fn column_19(cpu: Processor, memory: &[u8], reads: &mut [u8], writes: &[u8], op: u8) -> Operands
     requires ready { Ready memory reads writes }
     requires op_value { bit_and op 0x1F ≡ 0x19 }
-    ensures { RowPerforms op cpu memory reads writes row result }
+    ensures { RowPerforms op cpu memory reads writes result }
 {
     if op < 0xC0 {
-        return several::at_x_at_y(cpu, memory, reads, writes, row);
+        return several::at_x_at_y(cpu, memory, reads, writes);
     }
-    places::dy(cpu, memory, reads, writes, row, op)
+    places::dy(cpu, memory, reads, writes, op)
 }
 
 // Words of the direct page; MOV d,d.
-pub fn column_1a(
-    cpu: Processor,
-    memory: &[u8],
-    reads: &mut [u8],
-    writes: &[u8],
-    row: &mut [u16],
-    op: u8,
-) -> Operands
+pub fn column_1a(cpu: Processor, memory: &[u8], reads: &mut [u8], writes: &[u8], op: u8) -> Operands
     requires ready { Ready memory reads writes }
     requires op_value { bit_and op 0x1F ≡ 0x1A }
-    ensures { RowPerforms op cpu memory reads writes row result }
+    ensures { RowPerforms op cpu memory reads writes result }
 {
     match op {
-        opcodes::MOVW_D_YA => several::to_direct_word(cpu, memory, reads, writes, row),
-        opcodes::MOV_D_D => several::direct_to_direct(cpu, memory, reads, writes, row),
-        _ => several::direct_word(cpu, memory, reads, writes, row),
+        opcodes::MOVW_D_YA => several::to_direct_word(cpu, memory, reads, writes),
+        opcodes::MOV_D_D => several::direct_to_direct(cpu, memory, reads, writes),
+        _ => several::direct_word(cpu, memory, reads, writes),
     }
 }
 
 // CMP of X and Y; CBNE d+X; the rest reads nothing.
-pub fn column_1e(
-    cpu: Processor,
-    memory: &[u8],
-    reads: &mut [u8],
-    writes: &[u8],
-    row: &mut [u16],
-    op: u8,
-) -> Operands
+pub fn column_1e(cpu: Processor, memory: &[u8], reads: &mut [u8], writes: &[u8], op: u8) -> Operands
     requires ready { Ready memory reads writes }
     requires op_value { bit_and op 0x1F ≡ 0x1E }
-    ensures { RowPerforms op cpu memory reads writes row result }
+    ensures { RowPerforms op cpu memory reads writes result }
 {
     match op {
-        opcodes::CMP_X_ABS | opcodes::CMP_Y_ABS => bytes::absolute(cpu, memory, reads, writes, row),
-        opcodes::CMP_X_D | opcodes::CMP_Y_D => bytes::direct(cpu, memory, reads, writes, row),
-        opcodes::CBNE_DX_R => bytes::direct_x(cpu, memory, reads, writes, row),
+        opcodes::CMP_X_ABS | opcodes::CMP_Y_ABS => bytes::absolute(cpu, memory, reads, writes),
+        opcodes::CMP_X_D | opcodes::CMP_Y_D => bytes::direct(cpu, memory, reads, writes),
+        opcodes::CBNE_DX_R => bytes::direct_x(cpu, memory, reads, writes),
         _ => bytes::implied(cpu),
     }
 }
 
 // Jumps, CALL and RETI; MOV A,(X)+; the rest reads nothing.
-pub fn column_1f(
-    cpu: Processor,
-    memory: &[u8],
-    reads: &mut [u8],
-    writes: &[u8],
-    row: &mut [u16],
-    op: u8,
-) -> Operands
+pub fn column_1f(cpu: Processor, memory: &[u8], reads: &mut [u8], writes: &[u8], op: u8) -> Operands
     requires ready { Ready memory reads writes }
     requires op_value { bit_and op 0x1F ≡ 0x1F }
-    ensures { RowPerforms op cpu memory reads writes row result }
+    ensures { RowPerforms op cpu memory reads writes result }
 {
     match op {
-        opcodes::JMP_IAX => ways::word_at_x(cpu, memory, reads, writes, row),
-        opcodes::CALL_ABS | opcodes::JMP_ABS => ways::word(cpu, memory, reads, writes, row),
-        opcodes::RETI => ways::pulled_three(cpu, memory, reads, writes, row),
-        opcodes::MOV_A_XINC => places::load(modes::ix(cpu), memory, reads, writes, row),
+        opcodes::JMP_IAX => ways::word_at_x(cpu, memory, reads, writes),
+        opcodes::CALL_ABS | opcodes::JMP_ABS => ways::word(cpu, memory, reads, writes),
+        opcodes::RETI => ways::pulled_three(cpu, memory, reads, writes),
+        opcodes::MOV_A_XINC => places::load(modes::ix(cpu), memory, reads, writes),
         _ => bytes::implied(cpu),
     }
 }

@@ -26,17 +26,11 @@ pub fn aim(found: Addressed) -> Operands
 }
 
 // An address with the byte that stands there.
-pub fn load(
-    found: Addressed,
-    memory: &[u8],
-    reads: &mut [u8],
-    writes: &[u8],
-    row: &mut [u16],
-) -> Operands
+pub fn load(found: Addressed, memory: &[u8], reads: &mut [u8], writes: &[u8]) -> Operands
     requires { Ready memory reads writes }
-    ensures { Performs (loaded found) memory reads writes row result }
+    ensures { Performs (loaded found) memory reads writes result }
 {
-    let low = memory::read(memory, reads, writes, row, found.at);
+    let low = memory::read(memory, reads, writes, found.at);
     let cpu = found.cpu;
     Operands {
         cpu,
@@ -48,117 +42,68 @@ pub fn load(
 }
 
 // Either, by the opcode: where A, X and Y are loaded and stored, the stores are the opcodes whose top three bits are 6.
-pub fn place(
-    found: Addressed,
-    memory: &[u8],
-    reads: &mut [u8],
-    writes: &[u8],
-    row: &mut [u16],
-    op: u8,
-) -> Operands
+pub fn place(found: Addressed, memory: &[u8], reads: &mut [u8], writes: &[u8], op: u8) -> Operands
     requires { Ready memory reads writes }
-    ensures { Performs (placed op found) memory reads writes row result }
+    ensures { Performs (placed op found) memory reads writes result }
 {
     if op / 32 == 6 {
         return aim(found);
     }
-    load(found, memory, reads, writes, row)
+    load(found, memory, reads, writes)
 }
 
 // d
-pub fn d(
-    cpu: Processor,
-    memory: &[u8],
-    reads: &mut [u8],
-    writes: &[u8],
-    row: &mut [u16],
-    op: u8,
-) -> Operands
+pub fn d(cpu: Processor, memory: &[u8], reads: &mut [u8], writes: &[u8], op: u8) -> Operands
     requires { Ready memory reads writes }
-    ensures { Performs (then (mode.direct 0 cpu) (placed op)) memory reads writes row result }
+    ensures { Performs (then (mode.direct 0 cpu) (placed op)) memory reads writes result }
 {
-    let found = modes::d(cpu, memory, reads, writes, row);
-    place(found, memory, reads, writes, row, op)
+    let found = modes::d(cpu, memory, reads, writes);
+    place(found, memory, reads, writes, op)
 }
 
 // d+X
-pub fn dx(
-    cpu: Processor,
-    memory: &[u8],
-    reads: &mut [u8],
-    writes: &[u8],
-    row: &mut [u16],
-    op: u8,
-) -> Operands
+pub fn dx(cpu: Processor, memory: &[u8], reads: &mut [u8], writes: &[u8], op: u8) -> Operands
     requires { Ready memory reads writes }
-    ensures { Performs (then (mode.direct cpu.x cpu) (placed op)) memory reads writes row result }
+    ensures { Performs (then (mode.direct cpu.x cpu) (placed op)) memory reads writes result }
 {
-    let found = modes::dx(cpu, memory, reads, writes, row);
-    place(found, memory, reads, writes, row, op)
+    let found = modes::dx(cpu, memory, reads, writes);
+    place(found, memory, reads, writes, op)
 }
 
 // d+Y
-pub fn dy(
-    cpu: Processor,
-    memory: &[u8],
-    reads: &mut [u8],
-    writes: &[u8],
-    row: &mut [u16],
-    op: u8,
-) -> Operands
+pub fn dy(cpu: Processor, memory: &[u8], reads: &mut [u8], writes: &[u8], op: u8) -> Operands
     requires { Ready memory reads writes }
-    ensures { Performs (then (mode.direct cpu.y cpu) (placed op)) memory reads writes row result }
+    ensures { Performs (then (mode.direct cpu.y cpu) (placed op)) memory reads writes result }
 {
-    let found = modes::dy(cpu, memory, reads, writes, row);
-    place(found, memory, reads, writes, row, op)
+    let found = modes::dy(cpu, memory, reads, writes);
+    place(found, memory, reads, writes, op)
 }
 
 // !a
-pub fn abs(
-    cpu: Processor,
-    memory: &[u8],
-    reads: &mut [u8],
-    writes: &[u8],
-    row: &mut [u16],
-    op: u8,
-) -> Operands
+pub fn abs(cpu: Processor, memory: &[u8], reads: &mut [u8], writes: &[u8], op: u8) -> Operands
     requires { Ready memory reads writes }
-    ensures { Performs (then (mode.absolute 0 cpu) (placed op)) memory reads writes row result }
+    ensures { Performs (then (mode.absolute 0 cpu) (placed op)) memory reads writes result }
 {
-    let found = modes::abs(cpu, memory, reads, writes, row);
-    place(found, memory, reads, writes, row, op)
+    let found = modes::abs(cpu, memory, reads, writes);
+    place(found, memory, reads, writes, op)
 }
 
 // !a+X
-pub fn absx(
-    cpu: Processor,
-    memory: &[u8],
-    reads: &mut [u8],
-    writes: &[u8],
-    row: &mut [u16],
-    op: u8,
-) -> Operands
+pub fn absx(cpu: Processor, memory: &[u8], reads: &mut [u8], writes: &[u8], op: u8) -> Operands
     requires { Ready memory reads writes }
-    ensures { Performs (then (mode.absolute cpu.x cpu) (placed op)) memory reads writes row result }
+    ensures { Performs (then (mode.absolute cpu.x cpu) (placed op)) memory reads writes result }
 {
-    let found = modes::absx(cpu, memory, reads, writes, row);
-    place(found, memory, reads, writes, row, op)
+    let found = modes::absx(cpu, memory, reads, writes);
+    place(found, memory, reads, writes, op)
 }
 
 // !a+Y
-pub fn absy(
-    cpu: Processor,
-    memory: &[u8],
-    reads: &mut [u8],
-    writes: &[u8],
-    row: &mut [u16],
-    op: u8,
-) -> Operands
+pub fn absy(cpu: Processor, memory: &[u8], reads: &mut [u8], writes: &[u8], op: u8) -> Operands
     requires { Ready memory reads writes }
-    ensures { Performs (then (mode.absolute cpu.y cpu) (placed op)) memory reads writes row result }
+    ensures { Performs (then (mode.absolute cpu.y cpu) (placed op)) memory reads writes result }
 {
-    let found = modes::absy(cpu, memory, reads, writes, row);
-    place(found, memory, reads, writes, row, op)
+    let found = modes::absy(cpu, memory, reads, writes);
+    place(found, memory, reads, writes, op)
 }
 
 // [d+X]
@@ -168,14 +113,13 @@ pub fn idx(
     memory: &[u8],
     reads: &mut [u8],
     writes: &[u8],
-    row: &mut [u16],
     op: u8,
 ) -> Operands
     requires { Ready memory reads writes }
-    ensures { Performs (then (mode.pointer_x edition cpu) (placed op)) memory reads writes row result }
+    ensures { Performs (then (mode.pointer_x edition cpu) (placed op)) memory reads writes result }
 {
-    let found = modes::idx(cpu, edition, memory, reads, writes, row);
-    place(found, memory, reads, writes, row, op)
+    let found = modes::idx(cpu, edition, memory, reads, writes);
+    place(found, memory, reads, writes, op)
 }
 
 // [d]+Y
@@ -185,12 +129,11 @@ pub fn idy(
     memory: &[u8],
     reads: &mut [u8],
     writes: &[u8],
-    row: &mut [u16],
     op: u8,
 ) -> Operands
     requires { Ready memory reads writes }
-    ensures { Performs (then (mode.pointer_y edition cpu) (placed op)) memory reads writes row result }
+    ensures { Performs (then (mode.pointer_y edition cpu) (placed op)) memory reads writes result }
 {
-    let found = modes::idy(cpu, edition, memory, reads, writes, row);
-    place(found, memory, reads, writes, row, op)
+    let found = modes::idy(cpu, edition, memory, reads, writes);
+    place(found, memory, reads, writes, op)
 }

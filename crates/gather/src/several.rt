@@ -15,14 +15,13 @@ fn load_both(
     memory: &[u8],
     reads: &mut [u8],
     writes: &[u8],
-    row: &mut [u16],
     source: u16,
 ) -> Operands
     requires { Ready memory reads writes }
-    ensures { Performs (both_loaded source found) memory reads writes row result }
+    ensures { Performs (both_loaded source found) memory reads writes result }
 {
-    let low = memory::read(memory, reads, writes, row, source);
-    let high = memory::read(memory, reads, writes, row, found.at);
+    let low = memory::read(memory, reads, writes, source);
+    let high = memory::read(memory, reads, writes, found.at);
     let cpu = found.cpu;
     Operands {
         cpu,
@@ -39,13 +38,12 @@ fn load_source(
     memory: &[u8],
     reads: &mut [u8],
     writes: &[u8],
-    row: &mut [u16],
     source: u16,
 ) -> Operands
     requires { Ready memory reads writes }
-    ensures { Performs (source_loaded source found) memory reads writes row result }
+    ensures { Performs (source_loaded source found) memory reads writes result }
 {
-    let low = memory::read(memory, reads, writes, row, source);
+    let low = memory::read(memory, reads, writes, source);
     let cpu = found.cpu;
     Operands {
         cpu,
@@ -57,54 +55,36 @@ fn load_source(
 }
 
 // d,d: the source's operand byte comes first.
-pub fn direct_direct(
-    cpu: Processor,
-    memory: &[u8],
-    reads: &mut [u8],
-    writes: &[u8],
-    row: &mut [u16],
-) -> Operands
+pub fn direct_direct(cpu: Processor, memory: &[u8], reads: &mut [u8], writes: &[u8]) -> Operands
     requires { Ready memory reads writes }
-    ensures { Performs (plainly direct_direct cpu) memory reads writes row result }
+    ensures { Performs (plainly direct_direct cpu) memory reads writes result }
 {
-    let source = modes::d(cpu, memory, reads, writes, row);
+    let source = modes::d(cpu, memory, reads, writes);
     let next = source.cpu;
-    let found = modes::d(next, memory, reads, writes, row);
-    load_both(found, memory, reads, writes, row, source.at)
+    let found = modes::d(next, memory, reads, writes);
+    load_both(found, memory, reads, writes, source.at)
 }
 
 // d,d for MOV, which does not read its target.
-pub fn direct_to_direct(
-    cpu: Processor,
-    memory: &[u8],
-    reads: &mut [u8],
-    writes: &[u8],
-    row: &mut [u16],
-) -> Operands
+pub fn direct_to_direct(cpu: Processor, memory: &[u8], reads: &mut [u8], writes: &[u8]) -> Operands
     requires { Ready memory reads writes }
-    ensures { Performs (plainly direct_to_direct cpu) memory reads writes row result }
+    ensures { Performs (plainly direct_to_direct cpu) memory reads writes result }
 {
-    let source = modes::d(cpu, memory, reads, writes, row);
+    let source = modes::d(cpu, memory, reads, writes);
     let next = source.cpu;
-    let found = modes::d(next, memory, reads, writes, row);
-    load_source(found, memory, reads, writes, row, source.at)
+    let found = modes::d(next, memory, reads, writes);
+    load_source(found, memory, reads, writes, source.at)
 }
 
 // d,#i: the immediate comes first.
-pub fn direct_immediate(
-    cpu: Processor,
-    memory: &[u8],
-    reads: &mut [u8],
-    writes: &[u8],
-    row: &mut [u16],
-) -> Operands
+pub fn direct_immediate(cpu: Processor, memory: &[u8], reads: &mut [u8], writes: &[u8]) -> Operands
     requires { Ready memory reads writes }
-    ensures { Performs (plainly direct_immediate cpu) memory reads writes row result }
+    ensures { Performs (plainly direct_immediate cpu) memory reads writes result }
 {
-    let immediate = modes::fetch_u8(cpu, memory, reads, writes, row);
+    let immediate = modes::fetch_u8(cpu, memory, reads, writes);
     let next = immediate.cpu;
-    let found = modes::d(next, memory, reads, writes, row);
-    let high = memory::read(memory, reads, writes, row, found.at);
+    let found = modes::d(next, memory, reads, writes);
+    let high = memory::read(memory, reads, writes, found.at);
     let after = found.cpu;
     Operands {
         cpu: after,
@@ -121,14 +101,13 @@ pub fn immediate_to_direct(
     memory: &[u8],
     reads: &mut [u8],
     writes: &[u8],
-    row: &mut [u16],
 ) -> Operands
     requires { Ready memory reads writes }
-    ensures { Performs (plainly immediate_to_direct cpu) memory reads writes row result }
+    ensures { Performs (plainly immediate_to_direct cpu) memory reads writes result }
 {
-    let immediate = modes::fetch_u8(cpu, memory, reads, writes, row);
+    let immediate = modes::fetch_u8(cpu, memory, reads, writes);
     let next = immediate.cpu;
-    let found = modes::d(next, memory, reads, writes, row);
+    let found = modes::d(next, memory, reads, writes);
     let after = found.cpu;
     Operands {
         cpu: after,
@@ -140,34 +119,22 @@ pub fn immediate_to_direct(
 }
 
 // (X),(Y): (Y) is the source.
-pub fn at_x_at_y(
-    cpu: Processor,
-    memory: &[u8],
-    reads: &mut [u8],
-    writes: &[u8],
-    row: &mut [u16],
-) -> Operands
+pub fn at_x_at_y(cpu: Processor, memory: &[u8], reads: &mut [u8], writes: &[u8]) -> Operands
     requires { Ready memory reads writes }
-    ensures { Performs (plainly at_x_at_y cpu) memory reads writes row result }
+    ensures { Performs (plainly at_x_at_y cpu) memory reads writes result }
 {
     let source = modes::iy(cpu);
-    load_both(modes::ix(cpu), memory, reads, writes, row, source.at)
+    load_both(modes::ix(cpu), memory, reads, writes, source.at)
 }
 
 // A word of the direct page.
-pub fn direct_word(
-    cpu: Processor,
-    memory: &[u8],
-    reads: &mut [u8],
-    writes: &[u8],
-    row: &mut [u16],
-) -> Operands
+pub fn direct_word(cpu: Processor, memory: &[u8], reads: &mut [u8], writes: &[u8]) -> Operands
     requires { Ready memory reads writes }
-    ensures { Performs (plainly direct_word cpu) memory reads writes row result }
+    ensures { Performs (plainly direct_word cpu) memory reads writes result }
 {
-    let found = modes::dw(cpu, memory, reads, writes, row);
-    let low = memory::read(memory, reads, writes, row, found.low);
-    let high = memory::read(memory, reads, writes, row, found.high);
+    let found = modes::dw(cpu, memory, reads, writes);
+    let low = memory::read(memory, reads, writes, found.low);
+    let high = memory::read(memory, reads, writes, found.high);
     let after = found.cpu;
     Operands {
         cpu: after,
@@ -179,17 +146,11 @@ pub fn direct_word(
 }
 
 // The place of a word of the direct page.
-pub fn to_direct_word(
-    cpu: Processor,
-    memory: &[u8],
-    reads: &mut [u8],
-    writes: &[u8],
-    row: &mut [u16],
-) -> Operands
+pub fn to_direct_word(cpu: Processor, memory: &[u8], reads: &mut [u8], writes: &[u8]) -> Operands
     requires { Ready memory reads writes }
-    ensures { Performs (plainly to_direct_word cpu) memory reads writes row result }
+    ensures { Performs (plainly to_direct_word cpu) memory reads writes result }
 {
-    let found = modes::dw(cpu, memory, reads, writes, row);
+    let found = modes::dw(cpu, memory, reads, writes);
     let after = found.cpu;
     Operands {
         cpu: after,
@@ -209,18 +170,12 @@ fn bit_value(bit: u8) -> u8
 }
 
 // A byte and one of its bits, by its value.
-pub fn memory_bit(
-    cpu: Processor,
-    memory: &[u8],
-    reads: &mut [u8],
-    writes: &[u8],
-    row: &mut [u16],
-) -> Operands
+pub fn memory_bit(cpu: Processor, memory: &[u8], reads: &mut [u8], writes: &[u8]) -> Operands
     requires { Ready memory reads writes }
-    ensures { Performs (plainly memory_bit cpu) memory reads writes row result }
+    ensures { Performs (plainly memory_bit cpu) memory reads writes result }
 {
-    let found = modes::bit_operand(cpu, memory, reads, writes, row);
-    let low = memory::read(memory, reads, writes, row, found.at);
+    let found = modes::bit_operand(cpu, memory, reads, writes);
+    let low = memory::read(memory, reads, writes, found.at);
     let after = found.cpu;
     Operands {
         cpu: after,

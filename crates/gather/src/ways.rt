@@ -10,17 +10,11 @@ use instructions::Operands;
 use processor::Processor;
 
 // PCALL: an operand byte in the upper page.
-pub fn upper_page(
-    cpu: Processor,
-    memory: &[u8],
-    reads: &mut [u8],
-    writes: &[u8],
-    row: &mut [u16],
-) -> Operands
+pub fn upper_page(cpu: Processor, memory: &[u8], reads: &mut [u8], writes: &[u8]) -> Operands
     requires { Ready memory reads writes }
-    ensures { Performs (plainly upper_page cpu) memory reads writes row result }
+    ensures { Performs (plainly upper_page cpu) memory reads writes result }
 {
-    let operand = modes::fetch_u8(cpu, memory, reads, writes, row);
+    let operand = modes::fetch_u8(cpu, memory, reads, writes);
     let after = operand.cpu;
     Operands {
         cpu: after,
@@ -37,13 +31,12 @@ pub fn vector_at(
     memory: &[u8],
     reads: &mut [u8],
     writes: &[u8],
-    row: &mut [u16],
     at: u16,
 ) -> Operands
     requires { Ready memory reads writes }
-    ensures { Performs (vector at cpu) memory reads writes row result }
+    ensures { Performs (vector at cpu) memory reads writes result }
 {
-    let target = memory::read_u16(memory, reads, writes, row, at);
+    let target = memory::read_u16(memory, reads, writes, at);
     Operands {
         cpu,
         at: target,
@@ -59,78 +52,46 @@ pub fn table_vector(
     memory: &[u8],
     reads: &mut [u8],
     writes: &[u8],
-    row: &mut [u16],
     opcode: u8,
 ) -> Operands
     requires { Ready memory reads writes }
-    ensures { Performs (vector (0xFFDE - opcode / 16 * 2) cpu) memory reads writes row result }
+    ensures { Performs (vector (0xFFDE - opcode / 16 * 2) cpu) memory reads writes result }
 {
-    vector_at(
-        cpu,
-        memory,
-        reads,
-        writes,
-        row,
-        0xFFDE - opcode as u16 / 16 * 2,
-    )
+    vector_at(cpu, memory, reads, writes, 0xFFDE - opcode as u16 / 16 * 2)
 }
 
 // CALL and JMP: an operand word.
-pub fn word(
-    cpu: Processor,
-    memory: &[u8],
-    reads: &mut [u8],
-    writes: &[u8],
-    row: &mut [u16],
-) -> Operands
+pub fn word(cpu: Processor, memory: &[u8], reads: &mut [u8], writes: &[u8]) -> Operands
     requires { Ready memory reads writes }
-    ensures { Performs (plainly word cpu) memory reads writes row result }
+    ensures { Performs (plainly word cpu) memory reads writes result }
 {
-    aim(modes::abs(cpu, memory, reads, writes, row))
+    aim(modes::abs(cpu, memory, reads, writes))
 }
 
 // JMP [!a+X]: the word there.
-pub fn word_at_x(
-    cpu: Processor,
-    memory: &[u8],
-    reads: &mut [u8],
-    writes: &[u8],
-    row: &mut [u16],
-) -> Operands
+pub fn word_at_x(cpu: Processor, memory: &[u8], reads: &mut [u8], writes: &[u8]) -> Operands
     requires { Ready memory reads writes }
-    ensures { Performs (plainly word_at_x cpu) memory reads writes row result }
+    ensures { Performs (plainly word_at_x cpu) memory reads writes result }
 {
-    aim(modes::iax(cpu, memory, reads, writes, row))
+    aim(modes::iax(cpu, memory, reads, writes))
 }
 
 // RET: a word from the stack.
-pub fn pulled_word(
-    cpu: Processor,
-    memory: &[u8],
-    reads: &mut [u8],
-    writes: &[u8],
-    row: &mut [u16],
-) -> Operands
+pub fn pulled_word(cpu: Processor, memory: &[u8], reads: &mut [u8], writes: &[u8]) -> Operands
     requires { Ready memory reads writes }
-    ensures { Performs (plainly pulled_word cpu) memory reads writes row result }
+    ensures { Performs (plainly pulled_word cpu) memory reads writes result }
 {
-    aim(modes::pull_from_stack_u16(cpu, memory, reads, writes, row))
+    aim(modes::pull_from_stack_u16(cpu, memory, reads, writes))
 }
 
 // RETI: a byte from the stack, then a word.
-pub fn pulled_three(
-    cpu: Processor,
-    memory: &[u8],
-    reads: &mut [u8],
-    writes: &[u8],
-    row: &mut [u16],
-) -> Operands
+pub fn pulled_three(cpu: Processor, memory: &[u8], reads: &mut [u8], writes: &[u8]) -> Operands
     requires { Ready memory reads writes }
-    ensures { Performs (plainly pulled_three cpu) memory reads writes row result }
+    ensures { Performs (plainly pulled_three cpu) memory reads writes result }
 {
-    let first = modes::pull_from_stack_u8(cpu, memory, reads, writes, row);
+    let first = modes::pull_from_stack_u8(cpu, memory, reads, writes);
     let next = first.cpu;
-    let found = modes::pull_from_stack_u16(next, memory, reads, writes, row);
+    let found = modes::pull_from_stack_u16(next, memory, reads, writes);
     let after = found.cpu;
     Operands {
         cpu: after,

@@ -13,7 +13,7 @@ use Rattle.laws.specs.Dispatch.{none_then}
 use Rattle.waking.specs.States.{is_awake}
 use Rattle.waking.specs.declared.State.{State}
 use Rattle.memory.specs.World.{World, byte_at, seen, kept}
-use Rattle.memory.specs.Access.{Access, then, perform, perform_on}
+use Rattle.memory.specs.Access.{Access, then, perform}
 use Rattle.memory.specs.Access.Access.{done, read_at, store_at}
 use Rattle.processor.specs.Record.{started, with_y, word_of, produced}
 use Rattle.processor.specs.Products.{divided, div_of}
@@ -54,7 +54,7 @@ ends_then P Q (read_at a p) k h f = λ byte. ends_then P Q (p byte) k (h byte) f
 ends_then P Q (store_at a byte p) k h f = ends_then P Q p k h f
 
 pub ends_performed : {R : Type 0} (P : R → Type 0) (p : Access R) (w : World) → Ends P p → P (perform p w).result
-unfolding perform_on
+unfolding perform
 ends_performed P (done x) w h = h
 ends_performed P (read_at a p) w h = ends_performed P (p (byte_at a w)) (seen a w) (h (byte_at a w))
 ends_performed P (store_at a byte p) w h = ends_performed P p (kept a byte w) h

@@ -2,7 +2,7 @@
 -- Assumes nothing.
 use Prim.Native.Nat.{ℕ, ◌<◌}
 use Rattle.memory.specs.World.{World, byte_at, seen, kept}
-use Rattle.memory.specs.Access.{Access, then, perform, perform_on}
+use Rattle.memory.specs.Access.{Access, then, perform}
 use Rattle.memory.specs.Access.Access.{done, read_at, store_at}
 use Rattle.memory.specs.Inside.{Bytes, Inside}
 use Rattle.memory.proofs.Inside.{bytes_kept}
@@ -28,7 +28,7 @@ inside (stores h b w) = (h, b, inside w)
 -- Performed on a memory of bytes they leave one, and the fact of their result.
 pub performed : {R : Type 0} {P : R → Type 0} {p : Access R} → Within P p → (w : World) → Bytes w
     → P (perform p w).result × Bytes (perform p w).left
-unfolding perform_on
+unfolding perform
 performed (ends h) w m = (h, m)
 performed (reads {a = a} h f) w m = performed (f (byte_at a w) (m.below a)) (seen a w) (record { below = m.below })
 performed (stores {a = a} {byte = byte} h b v) w m = performed v (kept a byte w) (bytes_kept a byte w b m)

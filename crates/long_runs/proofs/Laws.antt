@@ -11,7 +11,7 @@ use Rattle.laws.specs.Dispatch.{NoneIn, none_then}
 use Rattle.waking.specs.States.{state_of, is_awake}
 use Rattle.memory.specs.World.{World}
 use Rattle.memory.specs.Access.Access.{done}
-use Rattle.memory.specs.Access.{Access, then, Outcome, outcome, plain, perform, perform_on, Does}
+use Rattle.memory.specs.Access.{Access, then, Outcome, outcome, perform, Does}
 use Rattle.memory.proofs.Laws.{perform_then}
 use Rattle.editions.specs.declared.Edition.{Edition}
 use Rattle.processor.specs.Record.{produced}
@@ -32,9 +32,9 @@ use Rattle.long_runs.specs.Runs.{taken_of}
 -- What is made of a result on the way is made of it in the end.
 made_on_the_way : {A B C : Type 0} (p : Access A) (make : A → B) (f : B → Access C) (w : World)
     → perform (then p (λ a. f (make a))) w ≡ perform (then (then p (λ a. done (make a))) f) w
-unfolding perform_on
+unfolding perform
 made_on_the_way p make f w =
-    rw (perform_then plain p (λ a. f (make a)) w, perform_then plain (then p (λ a. done (make a))) f w, perform_then plain p (λ a. done (make a)) w)
+    rw (perform_then p (λ a. f (make a)) w, perform_then (then p (λ a. done (make a))) f w, perform_then p (λ a. done (make a)) w)
 
 -- A step is the fetch of its opcode and then its row.
 module _ (edition : Edition) (cpu : Processor) {w left : World} {opcode : ℕ} {q : Outcome World Processor}

@@ -1,9 +1,8 @@
 -- The laws of `how_many`, for the theorems and proofs on counts: where it may be taken apart, and that the ones of a number are its places
 -- with a set bit.
 -- Assumes nothing.
-use Rattle.std.specs.Prelude.{ℕ, zero, suc, ◌+◌, ◌/◌, ◌%◌, ◌^◌, ◌<◌, ◌≤◌, ◌≡◌, refl, Bool, true, false, cond, ◌≢◌, eqb}
-use Rattle.std.proofs.Common.{sym, ◌∙◌, add-zero, add-suc, div-one, one-add, arith, lit≤, shr-shr}
-use Rattle.std.proofs.Math.Decide.{ℕ_discrete}
+use Rattle.std.specs.Prelude.{ℕ, zero, suc, ◌+◌, ◌/◌, ◌%◌, ◌^◌, ◌<◌, ◌≤◌, ◌≡◌, refl, Bool, true, false, cond, eqb}
+use Rattle.std.proofs.Common.{◌∙◌, add-zero, add-suc, div-one, one-add, arith, lit≤, shr-shr}
 use Rattle.std.specs.Int.Count.{ones, ones_step}
 use Rattle.marks.specs.Counts.{how_many}
 
@@ -25,19 +24,6 @@ pub in_parts : (n : ℕ) (f g h : ℕ → Bool) → ((k : ℕ) → cond (f k) 1 
 unfolding how_many
 in_parts zero f g h e = refl
 in_parts (suc n) f g h e = omega (arith, e n, in_parts n f g h e)
-
--- where one number more passes, and all else is alike, one more is counted
-pub one_passes : (n : ℕ) (f g : ℕ → Bool) (j : ℕ) → j < n → f j ≡ false → g j ≡ true → ((k : ℕ) → k < n → k ≢ j → f k ≡ g k)
-    → how_many n g ≡ how_many n f + 1
-unfolding how_many
-one_passes zero f g j h fails passes e = absurd (omega arith)
-one_passes (suc n) f g j h fails passes e =
-    elim (ℕ_discrete j n) [
-      | yes q ↦ rw (rw q at passes, rw q at fails, same_tests n f g (λ k l. e k (omega arith) (λ p. omega arith))) (omega arith)
-      | no q ↦
-          rw (e n (omega arith) (λ p. q (sym p)))
-          (omega (arith, one_passes n f g j (omega arith) fails passes (λ k l. e k (omega arith))))
-    ]
 
 -- no more numbers pass than there are
 pub at_most : (n : ℕ) (test : ℕ → Bool) → how_many n test ≤ n

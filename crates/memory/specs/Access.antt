@@ -26,31 +26,15 @@ pub record Outcome (W R : Type 0) : Type 0 where
   pub result : R
   pub left : W
 
-abbrev pub outcome : {W R : Type 0} → R → W → Outcome W R
+abbrev pub outcome : {R : Type 0} → R → World → Outcome World R
 outcome x w = record { result = x; left = w }
 
--- What there is to know of a kind of world: the byte that a read gives, what a read leaves, and what a store leaves.
-pub record Kind (W : Type 0) : Type 0 where
-  pub byte_at : ℕ → W → ℕ
-  pub seen : ℕ → W → W
-  pub kept : ℕ → ℕ → W → W
-
--- performing it on a world of a kind
-unfoldable pub perform_on : {W R : Type 0} → Kind W → Access R → W → Outcome W R
-perform_on kind (done x) w = outcome x w
-perform_on kind (read_at a p) w = perform_on kind (p (kind.byte_at a w)) (kind.seen a w)
-perform_on kind (store_at a byte p) w = perform_on kind p (kind.kept a byte w)
+-- performing it on a world
+unfoldable pub perform : {R : Type 0} → Access R → World → Outcome World R
+perform (done x) w = outcome x w
+perform (read_at a p) w = perform (p (byte_at a w)) (seen a w)
+perform (store_at a byte p) w = perform p (kept a byte w)
 
 -- Performing `p` on `w` gives `o`: the form of every contract on memory, up to that of a whole instruction.
-pub record DoesOn {W R : Type 0} (kind : Kind W) (p : Access R) (w : W) (o : Outcome W R) : Type 0 where
-  pub is : o ≡ perform_on kind p w
-
--- on memory and maps
-abbrev pub plain : Kind World
-plain = record { byte_at = byte_at; seen = seen; kept = kept }
-
-abbrev pub perform : {R : Type 0} → Access R → World → Outcome World R
-perform p w = perform_on plain p w
-
-abbrev pub Does : {R : Type 0} → Access R → World → Outcome World R → Type 0
-Does p w o = DoesOn plain p w o
+pub record Does {R : Type 0} (p : Access R) (w : World) (o : Outcome World R) : Type 0 where
+  pub is : o ≡ perform p w

@@ -1,10 +1,8 @@
--- The contracts on lent memory, maps and counts, said of the slices themselves: memory, reads, writes, row, in the order of every function's
--- parameters.
+-- The contracts on lent memory and maps, said of the slices themselves: memory, reads, writes, in the order of every function's parameters.
 use Rattle.std.specs.Prelude.{◌≡◌}
 use Rattle.laws.specs.Lent.{Slice, Lent}
 use Rattle.memory.specs.World.{World, Sized, world}
-use Rattle.memory.specs.Access.{Access, Outcome, outcome, DoesOn}
-use Rattle.memory.specs.Paged.{Paged, counting, paged_of}
+use Rattle.memory.specs.Access.{Access, Outcome, outcome, Does}
 
 -- memory and maps before a call, and after it
 abbrev pub before : Lent → Lent → Lent → World
@@ -17,17 +15,9 @@ after memory reads writes = world memory.exit.now reads.exit.now writes.exit.now
 abbrev pub Ready : Slice → Slice → Slice → Type 0
 Ready memory reads writes = Sized (world memory.now reads.now writes.now)
 
--- with a row that holds the counts of both maps, before a call, and after it
-abbrev pub paged_before : Lent → Lent → Lent → Lent → Paged
-paged_before memory reads writes row = paged_of memory.entry.now reads.entry.now writes.entry.now row.entry.now
-
-abbrev pub paged_after : Lent → Lent → Lent → Lent → Paged
-paged_after memory reads writes row = paged_of memory.exit.now reads.exit.now writes.exit.now row.exit.now
-
 -- What it promises, whether it reads, stores or does both: `p` is performed, and `r` comes of it.
-abbrev pub Performs : {R : Type 0} → Access R → Lent → Lent → Lent → Lent → R → Type 0
-Performs p memory reads writes row r =
-    DoesOn counting p (paged_before memory reads writes row) (outcome r (paged_after memory reads writes row))
+abbrev pub Performs : {R : Type 0} → Access R → Lent → Lent → Lent → R → Type 0
+Performs p memory reads writes r = Does p (before memory reads writes) (outcome r (after memory reads writes))
 
 -- What a call from outside promises: `r` and what is left are what `answer` makes of memory and maps.
 abbrev pub Yields : {R : Type 0} → (World → Outcome World R) → Lent → Lent → Lent → R → Type 0

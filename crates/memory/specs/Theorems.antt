@@ -6,7 +6,7 @@ use Rattle.std.proofs.Common.{length-set}
 use Rattle.marks.specs.Maps.{is_marked, marked}
 use Rattle.marks.proofs.Laws.{marked_is, length_marked}
 use Rattle.memory.specs.World.{World, Sized, byte_at, seen, kept}
-use Rattle.memory.specs.Access.{Access, perform, perform_on}
+use Rattle.memory.specs.Access.{Access, perform}
 use Rattle.memory.specs.Access.Access.{done, read_at, store_at}
 
 -- a map that has all the marks of another
@@ -49,7 +49,7 @@ kept_trans f g = later f.reads f.writes g
 
 -- Performing any accesses on memory and maps of the right lengths leaves the lengths, and every mark of either map.
 pub marks_stay : {R : Type 0} (p : Access R) (w : World) → Sized w → Kept w (perform p w).left
-unfolding perform_on
+unfolding perform
 marks_stay (done x) w s = kept_itself w s
 marks_stay (read_at a p) w s =
     let r = read_keeps (is_marked w.writes a) w.reads a s.reads in

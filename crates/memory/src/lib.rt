@@ -1,69 +1,48 @@
-// Reads and stores of the lent memory, the marks that they leave in the two maps, and the page counts that a new mark raises. The row has the
-// counts of the read map, 256 of them, and then those of the written map; an empty row serves who wants no counts.
+// Reads and stores of the lent memory, and the marks that they leave in the two maps.
 ghost use Rattle.memory.specs.Access.{ask, put};
 ghost use Rattle.memory.specs.Contracts.{Ready, Performs};
 ghost use Rattle.memory.specs.Words.{read_word, write_word};
 
 // The byte at an address, which is marked as read unless it has been stored to before.
-pub fn read(memory: &[u8], reads: &mut [u8], writes: &[u8], row: &mut [u16], at: u16) -> u8
+pub fn read(memory: &[u8], reads: &mut [u8], writes: &[u8], at: u16) -> u8
     requires { Ready memory reads writes }
-    ensures { Performs (ask at) memory reads writes row result }
+    ensures { Performs (ask at) memory reads writes result }
 {
+    marks::mark_unless(reads, writes, at);
     let k = at as usize;
-    let byte = memory[k];
-    if marks::mark_unless(reads, writes, at) {
-        pages::raise(row, k / 256);
-        return byte;
-    }
-    byte
+    memory[k]
 }
 
 // Stores a byte at an address.
-pub fn store(memory: &mut [u8], reads: &[u8], writes: &mut [u8], row: &mut [u16], at: u16, byte: u8)
+pub fn store(memory: &mut [u8], reads: &[u8], writes: &mut [u8], at: u16, byte: u8)
     requires { Ready memory reads writes }
-    ensures { Performs (put at byte) memory reads writes row tt }
+    ensures { Performs (put at byte) memory reads writes tt }
 {
+    marks::mark(writes, at);
     let k = at as usize;
     memory[k] = byte;
-    if marks::mark(writes, at) {
-        pages::raise(row, 256 + k / 256);
-    }
 }
 
 // The word at an address, low byte first.
-pub fn read_u16(memory: &[u8], reads: &mut [u8], writes: &[u8], row: &mut [u16], at: u16) -> u16
+pub fn read_u16(memory: &[u8], reads: &mut [u8], writes: &[u8], at: u16) -> u16
     requires { Ready memory reads writes }
-    ensures { Performs (read_word at) memory reads writes row result }
+    ensures { Performs (read_word at) memory reads writes result }
 {
-    let low = read(memory, reads, writes, row, at);
-    let high = read(
-        memory,
-        reads,
-        writes,
-        row,
-        std::num::wrapping_add_u16(at, 1),
-    );
+    let low = read(memory, reads, writes, at);
+    let high = read(memory, reads, writes, std::num::wrapping_add_u16(at, 1));
     high as u16 * 256 + low as u16
 }
 
 // Stores a word at an address, low byte first.
-pub fn write_u16(
-    memory: &mut [u8],
-    reads: &[u8],
-    writes: &mut [u8],
-    row: &mut [u16],
-    at: u16,
-    word: u16,
-)
+pub fn write_u16(memory: &mut [u8], reads: &[u8], writes: &mut [u8], at: u16, word: u16)
     requires { Ready memory reads writes }
-    ensures { Performs (write_word at word) memory reads writes row tt }
+    ensures { Performs (write_word at word) memory reads writes tt }
 {
-    store(memory, reads, writes, row, at, (word % 256) as u8);
+    store(memory, reads, writes, at, (word % 256) as u8);
     store(
         memory,
         reads,
         writes,
-        row,
         std::num::wrapping_add_u16(at, 1),
         (word / 256) as u8,
     );

@@ -27,17 +27,11 @@ fn page(psw: ProgramStatusWord, byte: u8, index: u8) -> u16
 }
 
 // The byte at PC, with PC behind it. Every opcode, operand and displacement byte is read here.
-pub fn fetch_u8(
-    cpu: Processor,
-    memory: &[u8],
-    reads: &mut [u8],
-    writes: &[u8],
-    row: &mut [u16],
-) -> Produced
+pub fn fetch_u8(cpu: Processor, memory: &[u8], reads: &mut [u8], writes: &[u8]) -> Produced
     requires { Ready memory reads writes }
-    ensures { Performs (fetch cpu) memory reads writes row result }
+    ensures { Performs (fetch cpu) memory reads writes result }
 {
-    let byte = memory::read(memory, reads, writes, row, cpu.pc);
+    let byte = memory::read(memory, reads, writes, cpu.pc);
     Produced {
         cpu: past(cpu),
         byte,
@@ -45,19 +39,13 @@ pub fn fetch_u8(
 }
 
 // The word at PC, low byte first, with PC behind it.
-pub fn fetch_u16(
-    cpu: Processor,
-    memory: &[u8],
-    reads: &mut [u8],
-    writes: &[u8],
-    row: &mut [u16],
-) -> Addressed
+pub fn fetch_u16(cpu: Processor, memory: &[u8], reads: &mut [u8], writes: &[u8]) -> Addressed
     requires { Ready memory reads writes }
-    ensures { Performs (fetch_word cpu) memory reads writes row result }
+    ensures { Performs (fetch_word cpu) memory reads writes result }
 {
-    let low = fetch_u8(cpu, memory, reads, writes, row);
+    let low = fetch_u8(cpu, memory, reads, writes);
     let next = low.cpu;
-    let high = fetch_u8(next, memory, reads, writes, row);
+    let high = fetch_u8(next, memory, reads, writes);
     let after = high.cpu;
     let at = high.byte as u16 * 256 + low.byte as u16;
     Addressed { cpu: after, at }
@@ -74,18 +62,11 @@ pub fn imm(cpu: Processor) -> Addressed
 }
 
 // d plus an index.
-pub fn d_off(
-    cpu: Processor,
-    memory: &[u8],
-    reads: &mut [u8],
-    writes: &[u8],
-    row: &mut [u16],
-    index: u8,
-) -> Addressed
+pub fn d_off(cpu: Processor, memory: &[u8], reads: &mut [u8], writes: &[u8], index: u8) -> Addressed
     requires { Ready memory reads writes }
-    ensures { Performs (direct index cpu) memory reads writes row result }
+    ensures { Performs (direct index cpu) memory reads writes result }
 {
-    let operand = fetch_u8(cpu, memory, reads, writes, row);
+    let operand = fetch_u8(cpu, memory, reads, writes);
     let next = operand.cpu;
     let psw = cpu.psw;
     Addressed {
@@ -95,59 +76,35 @@ pub fn d_off(
 }
 
 // d
-pub fn d(
-    cpu: Processor,
-    memory: &[u8],
-    reads: &mut [u8],
-    writes: &[u8],
-    row: &mut [u16],
-) -> Addressed
+pub fn d(cpu: Processor, memory: &[u8], reads: &mut [u8], writes: &[u8]) -> Addressed
     requires { Ready memory reads writes }
-    ensures { Performs (direct 0 cpu) memory reads writes row result }
+    ensures { Performs (direct 0 cpu) memory reads writes result }
 {
-    d_off(cpu, memory, reads, writes, row, 0)
+    d_off(cpu, memory, reads, writes, 0)
 }
 
 // d+X
-pub fn dx(
-    cpu: Processor,
-    memory: &[u8],
-    reads: &mut [u8],
-    writes: &[u8],
-    row: &mut [u16],
-) -> Addressed
+pub fn dx(cpu: Processor, memory: &[u8], reads: &mut [u8], writes: &[u8]) -> Addressed
     requires { Ready memory reads writes }
-    ensures { Performs (direct cpu.x cpu) memory reads writes row result }
+    ensures { Performs (direct cpu.x cpu) memory reads writes result }
 {
-    d_off(cpu, memory, reads, writes, row, cpu.x)
+    d_off(cpu, memory, reads, writes, cpu.x)
 }
 
 // d+Y
-pub fn dy(
-    cpu: Processor,
-    memory: &[u8],
-    reads: &mut [u8],
-    writes: &[u8],
-    row: &mut [u16],
-) -> Addressed
+pub fn dy(cpu: Processor, memory: &[u8], reads: &mut [u8], writes: &[u8]) -> Addressed
     requires { Ready memory reads writes }
-    ensures { Performs (direct cpu.y cpu) memory reads writes row result }
+    ensures { Performs (direct cpu.y cpu) memory reads writes result }
 {
-    d_off(cpu, memory, reads, writes, row, cpu.y)
+    d_off(cpu, memory, reads, writes, cpu.y)
 }
 
 // d as a word: the addresses of its low and its high byte, both in the direct page.
-pub fn dw(
-    cpu: Processor,
-    memory: &[u8],
-    reads: &mut [u8],
-    writes: &[u8],
-    row: &mut [u16],
-) -> WordAddressed
+pub fn dw(cpu: Processor, memory: &[u8], reads: &mut [u8], writes: &[u8]) -> WordAddressed
     requires { Ready memory reads writes }
-    ensures { Performs (direct_word cpu) memory reads writes row result }
+    ensures { Performs (direct_word cpu) memory reads writes result }
 {
-    let operand = fetch_u8(cpu, memory, reads, writes, row);
+    let operand = fetch_u8(cpu, memory, reads, writes);
     let next = operand.cpu;
     let psw = cpu.psw;
     WordAddressed {
@@ -186,15 +143,14 @@ fn pointer(
     memory: &[u8],
     reads: &mut [u8],
     writes: &[u8],
-    row: &mut [u16],
     index: u8,
 ) -> Addressed
     requires { Ready memory reads writes }
-    ensures { Performs (pointed edition index d) memory reads writes row result }
+    ensures { Performs (pointed edition index d) memory reads writes result }
 {
-    let low = memory::read(memory, reads, writes, row, d.at);
+    let low = memory::read(memory, reads, writes, d.at);
     let second = editions::second_at(edition, d.at);
-    let high = memory::read(memory, reads, writes, row, second);
+    let high = memory::read(memory, reads, writes, second);
     let word = high as u16 * 256 + low as u16;
     let cpu = d.cpu;
     Addressed {
@@ -210,13 +166,12 @@ pub fn idx(
     memory: &[u8],
     reads: &mut [u8],
     writes: &[u8],
-    row: &mut [u16],
 ) -> Addressed
     requires { Ready memory reads writes }
-    ensures { Performs (pointer_x edition cpu) memory reads writes row result }
+    ensures { Performs (pointer_x edition cpu) memory reads writes result }
 {
-    let at = dx(cpu, memory, reads, writes, row);
-    pointer(at, edition, memory, reads, writes, row, 0)
+    let at = dx(cpu, memory, reads, writes);
+    pointer(at, edition, memory, reads, writes, 0)
 }
 
 // [d]+Y
@@ -226,13 +181,12 @@ pub fn idy(
     memory: &[u8],
     reads: &mut [u8],
     writes: &[u8],
-    row: &mut [u16],
 ) -> Addressed
     requires { Ready memory reads writes }
-    ensures { Performs (pointer_y edition cpu) memory reads writes row result }
+    ensures { Performs (pointer_y edition cpu) memory reads writes result }
 {
-    let at = d(cpu, memory, reads, writes, row);
-    pointer(at, edition, memory, reads, writes, row, cpu.y)
+    let at = d(cpu, memory, reads, writes);
+    pointer(at, edition, memory, reads, writes, cpu.y)
 }
 
 // !a plus an index.
@@ -241,13 +195,12 @@ pub fn abs_off(
     memory: &[u8],
     reads: &mut [u8],
     writes: &[u8],
-    row: &mut [u16],
     index: u8,
 ) -> Addressed
     requires { Ready memory reads writes }
-    ensures { Performs (absolute index cpu) memory reads writes row result }
+    ensures { Performs (absolute index cpu) memory reads writes result }
 {
-    let operand = fetch_u16(cpu, memory, reads, writes, row);
+    let operand = fetch_u16(cpu, memory, reads, writes);
     let next = operand.cpu;
     Addressed {
         cpu: next,
@@ -256,76 +209,46 @@ pub fn abs_off(
 }
 
 // !a
-pub fn abs(
-    cpu: Processor,
-    memory: &[u8],
-    reads: &mut [u8],
-    writes: &[u8],
-    row: &mut [u16],
-) -> Addressed
+pub fn abs(cpu: Processor, memory: &[u8], reads: &mut [u8], writes: &[u8]) -> Addressed
     requires { Ready memory reads writes }
-    ensures { Performs (absolute 0 cpu) memory reads writes row result }
+    ensures { Performs (absolute 0 cpu) memory reads writes result }
 {
-    abs_off(cpu, memory, reads, writes, row, 0)
+    abs_off(cpu, memory, reads, writes, 0)
 }
 
 // !a+X
-pub fn absx(
-    cpu: Processor,
-    memory: &[u8],
-    reads: &mut [u8],
-    writes: &[u8],
-    row: &mut [u16],
-) -> Addressed
+pub fn absx(cpu: Processor, memory: &[u8], reads: &mut [u8], writes: &[u8]) -> Addressed
     requires { Ready memory reads writes }
-    ensures { Performs (absolute cpu.x cpu) memory reads writes row result }
+    ensures { Performs (absolute cpu.x cpu) memory reads writes result }
 {
-    abs_off(cpu, memory, reads, writes, row, cpu.x)
+    abs_off(cpu, memory, reads, writes, cpu.x)
 }
 
 // !a+Y
-pub fn absy(
-    cpu: Processor,
-    memory: &[u8],
-    reads: &mut [u8],
-    writes: &[u8],
-    row: &mut [u16],
-) -> Addressed
+pub fn absy(cpu: Processor, memory: &[u8], reads: &mut [u8], writes: &[u8]) -> Addressed
     requires { Ready memory reads writes }
-    ensures { Performs (absolute cpu.y cpu) memory reads writes row result }
+    ensures { Performs (absolute cpu.y cpu) memory reads writes result }
 {
-    abs_off(cpu, memory, reads, writes, row, cpu.y)
+    abs_off(cpu, memory, reads, writes, cpu.y)
 }
 
 // [!a+X]: the word there, whatever the edition.
-pub fn iax(
-    cpu: Processor,
-    memory: &[u8],
-    reads: &mut [u8],
-    writes: &[u8],
-    row: &mut [u16],
-) -> Addressed
+pub fn iax(cpu: Processor, memory: &[u8], reads: &mut [u8], writes: &[u8]) -> Addressed
     requires { Ready memory reads writes }
-    ensures { Performs (absolute_pointer cpu) memory reads writes row result }
+    ensures { Performs (absolute_pointer cpu) memory reads writes result }
 {
-    let operand = absx(cpu, memory, reads, writes, row);
+    let operand = absx(cpu, memory, reads, writes);
     let next = operand.cpu;
-    let at = memory::read_u16(memory, reads, writes, row, operand.at);
+    let at = memory::read_u16(memory, reads, writes, operand.at);
     Addressed { cpu: next, at }
 }
 
 // Mb: the address of a byte and the number of a bit.
-pub fn bit_operand(
-    cpu: Processor,
-    memory: &[u8],
-    reads: &mut [u8],
-    writes: &[u8],
-    row: &mut [u16],
-) -> BitAddressed
+pub fn bit_operand(cpu: Processor, memory: &[u8], reads: &mut [u8], writes: &[u8]) -> BitAddressed
     requires { Ready memory reads writes }
-    ensures { Performs (bit_operand cpu) memory reads writes row result }
+    ensures { Performs (bit_operand cpu) memory reads writes result }
 {
-    let operand = fetch_u16(cpu, memory, reads, writes, row);
+    let operand = fetch_u16(cpu, memory, reads, writes);
     let next = operand.cpu;
     let at = operand.at % 8192;
     let bit = (operand.at / 8192) as u8;
@@ -341,19 +264,13 @@ pub fn has_bit(byte: u8, bit: u8) -> bool
 }
 
 // The bit that Mb names.
-pub fn mb(
-    cpu: Processor,
-    memory: &[u8],
-    reads: &mut [u8],
-    writes: &[u8],
-    row: &mut [u16],
-) -> BitRead
+pub fn mb(cpu: Processor, memory: &[u8], reads: &mut [u8], writes: &[u8]) -> BitRead
     requires { Ready memory reads writes }
-    ensures { Performs (bit_read cpu) memory reads writes row result }
+    ensures { Performs (bit_read cpu) memory reads writes result }
 {
-    let operand = bit_operand(cpu, memory, reads, writes, row);
+    let operand = bit_operand(cpu, memory, reads, writes);
     let next = operand.cpu;
-    let byte = memory::read(memory, reads, writes, row, operand.at);
+    let byte = memory::read(memory, reads, writes, operand.at);
     BitRead {
         cpu: next,
         bit: has_bit(byte, operand.bit),

@@ -6,17 +6,11 @@ use crate::addresses::{fetch_u8, past};
 use processor::Processor;
 
 // Reads the displacement at PC and goes where it leads.
-pub fn branch_imm(
-    cpu: Processor,
-    memory: &[u8],
-    reads: &mut [u8],
-    writes: &[u8],
-    row: &mut [u16],
-) -> Processor
+pub fn branch_imm(cpu: Processor, memory: &[u8], reads: &mut [u8], writes: &[u8]) -> Processor
     requires { Ready memory reads writes }
-    ensures { Performs (branched cpu) memory reads writes row result }
+    ensures { Performs (branched cpu) memory reads writes result }
 {
-    let operand = fetch_u8(cpu, memory, reads, writes, row);
+    let operand = fetch_u8(cpu, memory, reads, writes);
     let mut next = operand.cpu;
     next.pc = signed::branch_target(next.pc, operand.byte);
     next
@@ -28,14 +22,13 @@ pub fn read_and_branch_if(
     memory: &[u8],
     reads: &mut [u8],
     writes: &[u8],
-    row: &mut [u16],
     test: bool,
 ) -> Processor
     requires { Ready memory reads writes }
-    ensures { Performs (branched_if test cpu) memory reads writes row result }
+    ensures { Performs (branched_if test cpu) memory reads writes result }
 {
     if test {
-        return branch_imm(cpu, memory, reads, writes, row);
+        return branch_imm(cpu, memory, reads, writes);
     }
     past(cpu)
 }

@@ -11,13 +11,12 @@ pub fn push_to_stack_u8(
     memory: &mut [u8],
     reads: &[u8],
     writes: &mut [u8],
-    row: &mut [u16],
     byte: u8,
 ) -> Processor
     requires { Ready memory reads writes }
-    ensures { Performs (push byte cpu) memory reads writes row result }
+    ensures { Performs (push byte cpu) memory reads writes result }
 {
-    memory::store(memory, reads, writes, row, 0x100 + cpu.sp as u16, byte);
+    memory::store(memory, reads, writes, 0x100 + cpu.sp as u16, byte);
     let mut next = cpu;
     next.sp = processor::difference(cpu.sp, 1);
     next
@@ -29,14 +28,13 @@ pub fn push_to_stack_u16(
     memory: &mut [u8],
     reads: &[u8],
     writes: &mut [u8],
-    row: &mut [u16],
     word: u16,
 ) -> Processor
     requires { Ready memory reads writes }
-    ensures { Performs (push_word word cpu) memory reads writes row result }
+    ensures { Performs (push_word word cpu) memory reads writes result }
 {
-    let next = push_to_stack_u8(cpu, memory, reads, writes, row, (word / 256) as u8);
-    push_to_stack_u8(next, memory, reads, writes, row, (word % 256) as u8)
+    let next = push_to_stack_u8(cpu, memory, reads, writes, (word / 256) as u8);
+    push_to_stack_u8(next, memory, reads, writes, (word % 256) as u8)
 }
 
 // Increases SP, then reads a byte.
@@ -45,14 +43,13 @@ pub fn pull_from_stack_u8(
     memory: &[u8],
     reads: &mut [u8],
     writes: &[u8],
-    row: &mut [u16],
 ) -> Produced
     requires { Ready memory reads writes }
-    ensures { Performs (pull cpu) memory reads writes row result }
+    ensures { Performs (pull cpu) memory reads writes result }
 {
     let mut next = cpu;
     next.sp = std::num::wrapping_add_u8(cpu.sp, 1);
-    let byte = memory::read(memory, reads, writes, row, 0x100 + next.sp as u16);
+    let byte = memory::read(memory, reads, writes, 0x100 + next.sp as u16);
     Produced { cpu: next, byte }
 }
 
@@ -62,14 +59,13 @@ pub fn pull_from_stack_u16(
     memory: &[u8],
     reads: &mut [u8],
     writes: &[u8],
-    row: &mut [u16],
 ) -> Addressed
     requires { Ready memory reads writes }
-    ensures { Performs (pull_word cpu) memory reads writes row result }
+    ensures { Performs (pull_word cpu) memory reads writes result }
 {
-    let low = pull_from_stack_u8(cpu, memory, reads, writes, row);
+    let low = pull_from_stack_u8(cpu, memory, reads, writes);
     let next = low.cpu;
-    let high = pull_from_stack_u8(next, memory, reads, writes, row);
+    let high = pull_from_stack_u8(next, memory, reads, writes);
     let after = high.cpu;
     let at = high.byte as u16 * 256 + low.byte as u16;
     Addressed { cpu: after, at }
@@ -81,13 +77,12 @@ pub fn call(
     memory: &mut [u8],
     reads: &[u8],
     writes: &mut [u8],
-    row: &mut [u16],
     target: u16,
 ) -> Processor
     requires { Ready memory reads writes }
-    ensures { Performs (called target cpu) memory reads writes row result }
+    ensures { Performs (called target cpu) memory reads writes result }
 {
-    let mut next = push_to_stack_u16(cpu, memory, reads, writes, row, cpu.pc);
+    let mut next = push_to_stack_u16(cpu, memory, reads, writes, cpu.pc);
     next.pc = target;
     next
 }

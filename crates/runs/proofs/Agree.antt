@@ -15,7 +15,7 @@ use borrow.Author.Tests.{eqb-true, eqb-false, eq-eqb}
 use Rattle.marks.specs.Maps.{is_marked}
 use Rattle.marks.proofs.Laws.{marked_is}
 use Rattle.memory.specs.World.{World, Sized, world, byte_at, seen, kept}
-use Rattle.memory.specs.Access.{Access, Outcome, perform, perform_on}
+use Rattle.memory.specs.Access.{Access, Outcome, perform}
 use Rattle.memory.specs.Access.Access.{done, read_at, store_at}
 use Rattle.runs.specs.Run.{Progress, run}
 use Rattle.runs.specs.Trace.{Event, events, taken, trace}
@@ -88,7 +88,7 @@ module _ (final : List ℕ) where
       go k h false e = s.bytes k h e
 
   agree : {R : Type 0} (p : Access R) (v w : World) → Alike final v w → Within (perform p v).left → Agreed (Alike final) (perform p v) (perform p w)
-  unfolding perform_on events
+  unfolding perform events
   agree (done x) v w s c = record { result = refl; left = s }
   agree (read_at a p) v w s c =
       let x = byte_at a v in

@@ -4,4 +4,3 @@ pub mod Bitmaps
 pub mod Exact
 pub mod Agree
 pub mod Inside
-pub mod Rows

@@ -10,7 +10,7 @@ use borrow.Author.Tests.{eqb-true}
 use Rattle.marks.specs.Maps.{is_marked, marked}
 use Rattle.marks.proofs.Laws.{marked_is}
 use Rattle.memory.specs.World.{World, Sized, byte_at, seen, kept}
-use Rattle.memory.specs.Access.{Access, Outcome, perform, perform_on}
+use Rattle.memory.specs.Access.{Access, Outcome, perform}
 use Rattle.memory.specs.Access.Access.{done, read_at, store_at}
 use Rattle.memory.specs.Theorems.{marks_stay}
 use Rattle.runs.specs.Run.{Progress, run}
@@ -31,7 +31,7 @@ replay_append [] t w = refl
 replay_append (e ∷ s) t w = replay_append s t (effect e w)
 
 pub replays : {R : Type 0} (p : Access R) (w : World) → (perform p w).left ≡ replay (events p w) w
-unfolding perform_on events
+unfolding perform events
 replays (done x) w = refl
 replays (read_at a p) w = replays (p (byte_at a w)) (seen a w)
 replays (store_at a byte p) w = replays p (kept a byte w)
@@ -55,7 +55,7 @@ needed k [] = false
 needed k (e ∷ t) = reads_at k e || not (stores_at k e) && needed k t
 
 pub sized_effect : (e : Event) (w : World) → Sized w → Sized (effect e w)
-unfolding perform_on
+unfolding perform
 sized_effect (read a) w s = (marks_stay (read_at a done) w s).sized
 sized_effect (store a byte) w s = (marks_stay (store_at a byte (done byte)) w s).sized
 
@@ -112,7 +112,7 @@ pub record Unmapped {R : Type 0} (o q : Outcome World R) : Type 0 where
 
 pub perform_unmapped : {R : Type 0} (p : Access R) (v w : World) → v.memory ≡ w.memory
     → Unmapped (perform p v) (perform p w) × (events p v ≡ events p w)
-unfolding perform_on events
+unfolding perform events
 perform_unmapped (done x) v w e = (record { result = refl; memory = e }, refl)
 perform_unmapped (read_at a p) v w e =
     let b : byte_at a v ≡ byte_at a w = ap (λ (m : List ℕ). get_or m a 0) e in

@@ -1,7 +1,7 @@
 -- The accesses that a run makes, in order.
 use Rattle.std.specs.Prelude.{ℕ, zero, suc, ◌<◌, List, [], ◌∷◌, ◌++◌}
 use Rattle.memory.specs.World.{World, byte_at, seen, kept}
-use Rattle.memory.specs.Access.{Access, Outcome, Kind, perform_on, perform}
+use Rattle.memory.specs.Access.{Access, Outcome, perform}
 use Rattle.memory.specs.Access.Access.{done, read_at, store_at}
 use Rattle.runs.specs.Run.{Progress}
 
@@ -26,12 +26,8 @@ events (done x) w = []
 events (read_at a p) w = read a ∷ events (p (byte_at a w)) (seen a w)
 events (store_at a byte p) w = store a byte ∷ events p (kept a byte w)
 
--- a turn by its accesses, on a world of a kind
-abbrev pub taken_on : {Regs W : Type 0} → Kind W → (Regs → Access (Progress Regs)) → Regs → W → Outcome W (Progress Regs)
-taken_on kind turn r w = perform_on kind (turn r) w
-
 module _ {Regs : Type 0} (turn : Regs → Access (Progress Regs)) where
-  -- on memory and maps
+  -- a turn by its accesses
   abbrev pub taken : Regs → World → Outcome World (Progress Regs)
   taken r w = perform (turn r) w
 

@@ -13,7 +13,7 @@ use lib.ListN.{get_or}
 use lib.Seq.{get_or-set_same, get_or-set_other}
 use borrow.Author.Tests.{eq-eqb, ne_eqb}
 use Rattle.marks.specs.Maps.{is_marked, marked}
-use Rattle.marks.proofs.Laws.{either_bit, less-bits}
+use Rattle.marks.proofs.Laws.{either_bit, less_bits}
 use Rattle.memory.specs.World.{World, Sized}
 use Rattle.memory.specs.Access.{Access, perform}
 use Rattle.runs.specs.Trace.{Event, events}
@@ -90,7 +90,7 @@ module _ (i : ℕ) (before : Both) (h : before.stored < 256) where
       rw (either_bit before.stored b.stored j)
       (ap (λ (n : ℕ). both n (bit_or before.stored b.stored))
       (read_over before.read b.read (255 - before.stored) (2 ^ j) (is_set before.stored j) (is_set b.stored j)
-      (less-bits before.stored j h g)))
+      (less_bits before.stored j h g)))
 
   touch-over : (e : Event) (b : Both) → touch i e (over before b) ≡ over before (touch i e b)
   touch-over (read a) b = go (eqb (a / 8) i)

@@ -11,7 +11,7 @@ use Rattle.std.proofs.Common.{ap, inl, inr, eqb-true}
 use Rattle.std.proofs.Math.Bool.{true, false}
 use Rattle.std.proofs.Math.Decide.{ℕ_discrete}
 use Rattle.memory.specs.World.{World, Sized, byte_at, seen, kept}
-use Rattle.memory.specs.Access.{Access, then, perform, perform_on}
+use Rattle.memory.specs.Access.{Access, then, perform}
 use Rattle.memory.specs.Access.Access.{done, read_at, store_at}
 use Rattle.memory.specs.Inside.{Bytes}
 use Rattle.memory.proofs.Laws.{perform_then}
@@ -152,7 +152,7 @@ module _ (edition : Edition) where
   -- A step, taken or not, leaves a memory of bytes and registers in their widths.
   counted-widths : (cpu : Processor) (w : World) → Fits cpu → Bytes w
       → let o = perform (counted_step edition cpu) w in Fits o.result.regs × Bytes o.left
-  unfolding counted_step perform_on
+  unfolding counted_step perform
   counted-widths cpu w fits bytes = go (is_awake cpu.state) refl
     where
       go : (b : Bool) → is_awake cpu.state ≡ b

@@ -1,7 +1,7 @@
--- Past the test of the lengths it is the long way to take the steps.
+-- Past the test of the lengths it is the long run, whose record's state is the stop.
 -- Assumes nothing.
 use borrow.Author.Rules.{rules}
-use Rattle.engine.proofs.Laws.{sized, refuses, accepts}
+use Rattle.engine.proofs.Laws.{sized, refuses, accepts, answers}
 use Rattle.engine.proofs.run_long.Statement.{statement}
 use Rattle.engine.proofs.run_long.Tie as tie
 
@@ -26,8 +26,11 @@ returns c = search (rules, refuses)
 edition-of-requires : tie.Need-edition-of-requires
 edition-of-requires c κs = search rules
 
-take-long-requires : tie.Need-take-long-requires
-take-long-requires c κs = sized _ _ c.before.before.before.before.if1.false c.before.before.before.before.before.refusal-of.ensures
+run-requires : tie.Need-run-requires
+run-requires c κs = sized _ _ c.before.before.before.before.if1.false c.before.before.before.before.before.refusal-of.ensures
+
+number-of-requires : tie.Need-number-of-requires
+number-of-requires c κs = search rules
 
 same-length-4 : tie.Need-same-length-4
 same-length-4 c = search rules
@@ -39,7 +42,7 @@ same-length-6 : tie.Need-same-length-6
 same-length-6 c = search rules
 
 returns-2 : tie.Need-returns-2
-returns-2 c = accepts _ _ _ _ c.before.before.before.before.before.before.before.before.before.before.before.before.refusal-of.ensures c.before.before.before.before.before.before.before.before.before.before.before.if1.false c.before.before.before.before.before.before.before.before.before.before.edition-of.ensures c.before.before.before.before.before.before.take_long.ensures
+returns-2 c = accepts _ _ _ _ c.before.before.before.before.before.before.before.before.before.before.before.before.before.before.refusal-of.ensures c.before.before.before.before.before.before.before.before.before.before.before.before.before.if1.false c.before.before.before.before.before.before.before.before.before.before.before.before.edition-of.ensures (answers c.before.before.before.before.before.before.before.before.run.ensures c.number_of.ensures)
 
 pub run_long_spec : {M : Type 1} → statement M
 run_long_spec =
@@ -52,7 +55,8 @@ run_long_spec =
     same-length-3
     returns
     edition-of-requires
-    take-long-requires
+    run-requires
+    number-of-requires
     same-length-4
     same-length-5
     same-length-6

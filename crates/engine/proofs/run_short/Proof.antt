@@ -1,6 +1,6 @@
 -- Past the test of the lengths it is the loop that takes the steps.
 -- Assumes nothing.
-use Rattle.engine.proofs.Laws.{sized, refuses, accepts, without_row}
+use Rattle.engine.proofs.Laws.{sized, refuses, accepts}
 use borrow.Author.Rules.{rules}
 use Rattle.engine.proofs.run_short.Statement.{statement}
 use Rattle.engine.proofs.run_short.Tie as tie
@@ -26,11 +26,8 @@ returns c = search (rules, refuses)
 edition-of-requires : tie.Need-edition-of-requires
 edition-of-requires c κs = search rules
 
-slice-aggregate-take-steps : tie.Need-slice-aggregate-take-steps
-slice-aggregate-take-steps c = search rules
-
 take-steps-requires : tie.Need-take-steps-requires
-take-steps-requires c κs = sized _ _ c.before.before.before.before.before.if1.false c.before.before.before.before.before.before.refusal-of.ensures
+take-steps-requires c κs = sized _ _ c.before.before.before.before.if1.false c.before.before.before.before.before.refusal-of.ensures
 
 same-length-4 : tie.Need-same-length-4
 same-length-4 c = search rules
@@ -42,8 +39,7 @@ same-length-6 : tie.Need-same-length-6
 same-length-6 c = search rules
 
 returns-2 : tie.Need-returns-2
-returns-2 c =
-    accepts _ _ _ _ c.before.before.before.before.before.before.before.before.before.before.before.before.before.before.refusal-of.ensures c.before.before.before.before.before.before.before.before.before.before.before.before.before.if1.false c.before.before.before.before.before.before.before.before.before.before.before.before.edition-of.ensures (without_row _ _ _ _ _ _ _ _ _ _ _ c.before.before.before.before.before.before.before.take_steps.ensures)
+returns-2 c = search (rules, accepts)
 
 pub run_short_spec : {M : Type 1} → statement M
 run_short_spec =
@@ -56,7 +52,6 @@ run_short_spec =
     same-length-3
     returns
     edition-of-requires
-    slice-aggregate-take-steps
     take-steps-requires
     same-length-4
     same-length-5

@@ -120,184 +120,127 @@ column-1f-requires c κs = search (rules, left_over columns 31 tt)
 same_length : tie.Need-same-length
 same_length c = search rules
 
+returns : tie.Need-returns
+returns c = search (rules, c.before.before.column-09.ensures)
+
 same-length-2 : tie.Need-same-length-2
 same-length-2 c = search rules
 
-returns : tie.Need-returns
-returns c = search (rules, c.before.before.before.before.column-09.ensures)
+returns-2 : tie.Need-returns-2
+returns-2 c = search (rules, c.before.before.column-0d.ensures)
 
 same-length-3 : tie.Need-same-length-3
 same-length-3 c = search rules
 
+returns-3 : tie.Need-returns-3
+returns-3 c = search (rules, c.before.before.column-0e.ensures)
+
 same-length-4 : tie.Need-same-length-4
 same-length-4 c = search rules
 
-returns-2 : tie.Need-returns-2
-returns-2 c = search (rules, c.before.before.before.before.column-0d.ensures)
+returns-4 : tie.Need-returns-4
+returns-4 c = search (rules, c.before.before.column-0f.ensures)
 
 same-length-5 : tie.Need-same-length-5
 same-length-5 c = search rules
 
+returns-5 : tie.Need-returns-5
+returns-5 c = search (rules, c.before.before.column-18.ensures)
+
 same-length-6 : tie.Need-same-length-6
 same-length-6 c = search rules
 
-returns-3 : tie.Need-returns-3
-returns-3 c = search (rules, c.before.before.before.before.column-0e.ensures)
+returns-6 : tie.Need-returns-6
+returns-6 c = search (rules, c.before.before.column-19.ensures)
 
 same-length-7 : tie.Need-same-length-7
 same-length-7 c = search rules
 
+returns-7 : tie.Need-returns-7
+returns-7 c = search (rules, c.before.before.column-1a.ensures)
+
 same-length-8 : tie.Need-same-length-8
 same-length-8 c = search rules
 
-returns-4 : tie.Need-returns-4
-returns-4 c = search (rules, c.before.before.before.before.column-0f.ensures)
-
-same-length-9 : tie.Need-same-length-9
-same-length-9 c = search rules
-
-same-length-10 : tie.Need-same-length-10
-same-length-10 c = search rules
-
-returns-5 : tie.Need-returns-5
-returns-5 c = search (rules, c.before.before.before.before.column-18.ensures)
-
-same-length-11 : tie.Need-same-length-11
-same-length-11 c = search rules
-
-same-length-12 : tie.Need-same-length-12
-same-length-12 c = search rules
-
-returns-6 : tie.Need-returns-6
-returns-6 c = search (rules, c.before.before.before.before.column-19.ensures)
-
-same-length-13 : tie.Need-same-length-13
-same-length-13 c = search rules
-
-same-length-14 : tie.Need-same-length-14
-same-length-14 c = search rules
-
-returns-7 : tie.Need-returns-7
-returns-7 c = search (rules, c.before.before.before.before.column-1a.ensures)
-
-same-length-15 : tie.Need-same-length-15
-same-length-15 c = search rules
-
-same-length-16 : tie.Need-same-length-16
-same-length-16 c = search rules
-
 returns-8 : tie.Need-returns-8
-returns-8 c = search (rules, c.before.before.before.before.column-1e.ensures)
+returns-8 c = search (rules, c.before.before.column-1e.ensures)
 
 returns-9 : tie.Need-returns-9
 unfolding rows gather_of
 returns-9 c = search (accesses, column 0 implied refl)
 
-same-length-17 : tie.Need-same-length-17
-same-length-17 c = search rules
-
-same-length-18 : tie.Need-same-length-18
-same-length-18 c = search rules
+same-length-9 : tie.Need-same-length-9
+same-length-9 c = search rules
 
 returns-10 : tie.Need-returns-10
 unfolding rows gather_of
 returns-10 c = search (accesses, column 1 table_vector refl)
 
-same-length-19 : tie.Need-same-length-19
-same-length-19 c = search rules
-
-same-length-20 : tie.Need-same-length-20
-same-length-20 c = search rules
+same-length-10 : tie.Need-same-length-10
+same-length-10 c = search rules
 
 returns-11 : tie.Need-returns-11
 unfolding rows gather_of
 returns-11 c = search (accesses, column 2 direct refl)
 
-same-length-21 : tie.Need-same-length-21
-same-length-21 c = search rules
-
-same-length-22 : tie.Need-same-length-22
-same-length-22 c = search rules
+same-length-11 : tie.Need-same-length-11
+same-length-11 c = search rules
 
 returns-12 : tie.Need-returns-12
 unfolding rows gather_of
 returns-12 c = search (accesses, column 3 direct refl)
 
-same-length-23 : tie.Need-same-length-23
-same-length-23 c = search rules
-
-same-length-24 : tie.Need-same-length-24
-same-length-24 c = search rules
+same-length-12 : tie.Need-same-length-12
+same-length-12 c = search rules
 
 returns-13 : tie.Need-returns-13
 unfolding rows in_direct
 returns-13 c = search (accesses, places 4 in_direct refl)
 
-same-length-25 : tie.Need-same-length-25
-same-length-25 c = search rules
-
-same-length-26 : tie.Need-same-length-26
-same-length-26 c = search rules
+same-length-13 : tie.Need-same-length-13
+same-length-13 c = search rules
 
 returns-14 : tie.Need-returns-14
 unfolding rows at_absolute
 returns-14 c = search (accesses, places 5 at_absolute refl)
 
-same-length-27 : tie.Need-same-length-27
-same-length-27 c = search rules
-
-same-length-28 : tie.Need-same-length-28
-same-length-28 c = search rules
+same-length-14 : tie.Need-same-length-14
+same-length-14 c = search rules
 
 returns-15 : tie.Need-returns-15
 unfolding rows at_register_x then
 returns-15 c = search (accesses, places 6 at_register_x refl, placed_by)
 
-same-length-29 : tie.Need-same-length-29
-same-length-29 c = search rules
-
-same-length-30 : tie.Need-same-length-30
-same-length-30 c = search rules
+same-length-15 : tie.Need-same-length-15
+same-length-15 c = search rules
 
 returns-16 : tie.Need-returns-16
 unfolding rows at_pointer_x
 returns-16 c = search (accesses, places 7 at_pointer_x refl)
 
-same-length-31 : tie.Need-same-length-31
-same-length-31 c = search rules
-
-same-length-32 : tie.Need-same-length-32
-same-length-32 c = search rules
+same-length-16 : tie.Need-same-length-16
+same-length-16 c = search rules
 
 returns-17 : tie.Need-returns-17
 unfolding rows gather_of
 returns-17 c = search (accesses, column 8 immediate refl)
 
-same-length-33 : tie.Need-same-length-33
-same-length-33 c = search rules
-
-same-length-34 : tie.Need-same-length-34
-same-length-34 c = search rules
+same-length-17 : tie.Need-same-length-17
+same-length-17 c = search rules
 
 returns-18 : tie.Need-returns-18
 unfolding rows gather_of
 returns-18 c = search (accesses, column 10 memory_bit refl)
 
-same-length-35 : tie.Need-same-length-35
-same-length-35 c = search rules
-
-same-length-36 : tie.Need-same-length-36
-same-length-36 c = search rules
+same-length-18 : tie.Need-same-length-18
+same-length-18 c = search rules
 
 returns-19 : tie.Need-returns-19
 unfolding rows in_direct
 returns-19 c = search (accesses, places 11 in_direct refl)
 
-same-length-37 : tie.Need-same-length-37
-same-length-37 c = search rules
-
-same-length-38 : tie.Need-same-length-38
-same-length-38 c = search rules
+same-length-19 : tie.Need-same-length-19
+same-length-19 c = search rules
 
 returns-20 : tie.Need-returns-20
 unfolding rows at_absolute
@@ -307,81 +250,57 @@ returns-21 : tie.Need-returns-21
 unfolding rows gather_of
 returns-21 c = search (accesses, column 16 implied refl)
 
-same-length-39 : tie.Need-same-length-39
-same-length-39 c = search rules
-
-same-length-40 : tie.Need-same-length-40
-same-length-40 c = search rules
+same-length-20 : tie.Need-same-length-20
+same-length-20 c = search rules
 
 returns-22 : tie.Need-returns-22
 unfolding rows gather_of
 returns-22 c = search (accesses, column 17 table_vector refl)
 
-same-length-41 : tie.Need-same-length-41
-same-length-41 c = search rules
-
-same-length-42 : tie.Need-same-length-42
-same-length-42 c = search rules
+same-length-21 : tie.Need-same-length-21
+same-length-21 c = search rules
 
 returns-23 : tie.Need-returns-23
 unfolding rows gather_of
 returns-23 c = search (accesses, column 18 direct refl)
 
-same-length-43 : tie.Need-same-length-43
-same-length-43 c = search rules
-
-same-length-44 : tie.Need-same-length-44
-same-length-44 c = search rules
+same-length-22 : tie.Need-same-length-22
+same-length-22 c = search rules
 
 returns-24 : tie.Need-returns-24
 unfolding rows gather_of
 returns-24 c = search (accesses, column 19 direct refl)
 
-same-length-45 : tie.Need-same-length-45
-same-length-45 c = search rules
-
-same-length-46 : tie.Need-same-length-46
-same-length-46 c = search rules
+same-length-23 : tie.Need-same-length-23
+same-length-23 c = search rules
 
 returns-25 : tie.Need-returns-25
 unfolding rows in_direct_x
 returns-25 c = search (accesses, places 20 in_direct_x refl)
 
-same-length-47 : tie.Need-same-length-47
-same-length-47 c = search rules
-
-same-length-48 : tie.Need-same-length-48
-same-length-48 c = search rules
+same-length-24 : tie.Need-same-length-24
+same-length-24 c = search rules
 
 returns-26 : tie.Need-returns-26
 unfolding rows at_absolute_x
 returns-26 c = search (accesses, places 21 at_absolute_x refl)
 
-same-length-49 : tie.Need-same-length-49
-same-length-49 c = search rules
-
-same-length-50 : tie.Need-same-length-50
-same-length-50 c = search rules
+same-length-25 : tie.Need-same-length-25
+same-length-25 c = search rules
 
 returns-27 : tie.Need-returns-27
 unfolding rows at_absolute_y
 returns-27 c = search (accesses, places 22 at_absolute_y refl)
 
-same-length-51 : tie.Need-same-length-51
-same-length-51 c = search rules
-
-same-length-52 : tie.Need-same-length-52
-same-length-52 c = search rules
+same-length-26 : tie.Need-same-length-26
+same-length-26 c = search rules
 
 returns-28 : tie.Need-returns-28
 unfolding rows at_pointer_y
 returns-28 c = search (accesses, places 23 at_pointer_y refl)
 
-same-length-53 : tie.Need-same-length-53
-same-length-53 c = search rules
-
-same-length-54 : tie.Need-same-length-54
-same-length-54 c = search rules
+same-length-27 : tie.Need-same-length-27
+same-length-27 c = search rules
 
 returns-29 : tie.Need-returns-29
 unfolding rows in_direct_x
@@ -395,14 +314,11 @@ returns-31 : tie.Need-returns-31
 unfolding rows gather_of
 returns-31 c = search (accesses, column 29 implied refl)
 
-same-length-55 : tie.Need-same-length-55
-same-length-55 c = search rules
-
-same-length-56 : tie.Need-same-length-56
-same-length-56 c = search rules
+same-length-28 : tie.Need-same-length-28
+same-length-28 c = search rules
 
 returns-32 : tie.Need-returns-32
-returns-32 c = search (rules, c.before.before.before.before.column-1f.ensures)
+returns-32 c = search (rules, c.before.before.column-1f.ensures)
 
 pub gather_spec : {M : Type 1} → statement M
 gather_spec =
@@ -442,90 +358,62 @@ gather_spec =
     implied-requires-4
     column-1f-requires
     same_length
-    same-length-2
     returns
-    same-length-3
-    same-length-4
+    same-length-2
     returns-2
-    same-length-5
-    same-length-6
+    same-length-3
     returns-3
-    same-length-7
-    same-length-8
+    same-length-4
     returns-4
-    same-length-9
-    same-length-10
+    same-length-5
     returns-5
-    same-length-11
-    same-length-12
+    same-length-6
     returns-6
-    same-length-13
-    same-length-14
+    same-length-7
     returns-7
-    same-length-15
-    same-length-16
+    same-length-8
     returns-8
     returns-9
-    same-length-17
-    same-length-18
+    same-length-9
     returns-10
-    same-length-19
-    same-length-20
+    same-length-10
     returns-11
-    same-length-21
-    same-length-22
+    same-length-11
     returns-12
-    same-length-23
-    same-length-24
+    same-length-12
     returns-13
-    same-length-25
-    same-length-26
+    same-length-13
     returns-14
-    same-length-27
-    same-length-28
+    same-length-14
     returns-15
-    same-length-29
-    same-length-30
+    same-length-15
     returns-16
-    same-length-31
-    same-length-32
+    same-length-16
     returns-17
-    same-length-33
-    same-length-34
+    same-length-17
     returns-18
-    same-length-35
-    same-length-36
+    same-length-18
     returns-19
-    same-length-37
-    same-length-38
+    same-length-19
     returns-20
     returns-21
-    same-length-39
-    same-length-40
+    same-length-20
     returns-22
-    same-length-41
-    same-length-42
+    same-length-21
     returns-23
-    same-length-43
-    same-length-44
+    same-length-22
     returns-24
-    same-length-45
-    same-length-46
+    same-length-23
     returns-25
-    same-length-47
-    same-length-48
+    same-length-24
     returns-26
-    same-length-49
-    same-length-50
+    same-length-25
     returns-27
-    same-length-51
-    same-length-52
+    same-length-26
     returns-28
-    same-length-53
-    same-length-54
+    same-length-27
     returns-29
     returns-30
     returns-31
-    same-length-55
-    same-length-56
+    same-length-28
     returns-32)

@@ -5,7 +5,7 @@ use mathlib.Core.Logic.{⊎_elim}
 use native.Mathlib.Omega.{arith}
 use lib.ListN.{length}
 use borrow.Author.Rules.{rules}
-use Rattle.instructions.proofs.SoFar.{SoFar, lengths_stay, begun, one_more, resting, spent}
+use Rattle.instructions.proofs.SoFar.{SoFar, begun, one_more, resting, spent}
 use Rattle.registers.specs.Flat.{record_of}
 use Rattle.cells.specs.Cells.{world_of}
 use Rattle.cells.proofs.Laws.{sized}
@@ -35,7 +35,7 @@ loop-less c = omega (arith, c.before.before.before.before.before.before.loop-tes
 loop-again : tie.Need-loop-preserved invariant-loop decreases-loop
 loop-again c =
     let before = c.before.before.before.before.before.before.before.loop in (
-      one_more before.invariant.0 lengths_stay c.before.before.before.before.before.before.loop-test.true (is_awake_lem before.next.stop c.before.before.before.before.if1.true) refl
+      one_more before.invariant.0 c.before.before.before.before.before.before.loop-test.true (is_awake_lem before.next.stop c.before.before.before.before.if1.true) refl
           c.before.before.instruction.ensures,
       search (rules, before.invariant.1),
     )

@@ -30,9 +30,6 @@ add-result c = search rules
 same_length : tie.Need-same-length
 same_length c = search rules
 
-same-length-2 : tie.Need-same-length-2
-same-length-2 c = search rules
-
 returns : tie.Need-returns
 unfolding read_word
 returns c = search accesses
@@ -49,5 +46,4 @@ read_u16_spec =
     cast-result-2
     add-result
     same_length
-    same-length-2
     returns)

@@ -1,7 +1,7 @@
 -- Two stores, one after the other, the second at the next address.
 -- Assumes nothing.
 use Rattle.std.proofs.Common.{rules}
-use Rattle.memory.proofs.Laws.{put_then, put_at, ends}
+use Rattle.memory.proofs.Laws.{accesses}
 use Rattle.memory.specs.Words.{write_word}
 use Rattle.memory.proofs.write_u16.Statement.{statement}
 use Rattle.memory.proofs.write_u16.Tie as tie
@@ -27,12 +27,9 @@ same_length c = search rules
 same-length-2 : tie.Need-same-length-2
 same-length-2 c = search rules
 
-same-length-3 : tie.Need-same-length-3
-same-length-3 c = search rules
-
 returns : tie.Need-returns
 unfolding write_word
-returns c = put_then c.before.before.before.before.before.before.before.before.before.before.before.before.before.before.before.before.before.store.ensures (put_at c.before.before.before.before.before.before.before.wrapping-add-u16.ensures c.before.before.before.before.before.before.store2.ensures ends)
+returns c = search accesses
 
 pub write_u16_spec : {M : Type 1} → statement M
 write_u16_spec =
@@ -45,5 +42,4 @@ write_u16_spec =
     store-requires-2
     same_length
     same-length-2
-    same-length-3
     returns)

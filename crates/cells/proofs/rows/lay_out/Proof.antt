@@ -3,7 +3,7 @@
 use Prim.Native.Nat.{◌-◌}
 use native.Mathlib.Omega.{arith}
 use borrow.Author.Rules.{rules}
-use Rattle.laws.specs.Values.{SoFar, none_yet, one_more, all_there}
+use Rattle.cells.proofs.Values.{SoFar, none_yet, one_more, all_there}
 use Rattle.cells.proofs.Laws.{cell_of, cell_made, laid_out}
 use Rattle.cells.proofs.rows.lay_out.Statement.{statement}
 use Rattle.cells.proofs.rows.lay_out.Tie as tie

@@ -3,7 +3,7 @@
 use Prim.Native.Nat.{◌-◌}
 use borrow.Author.Rules.{rules}
 use Rattle.cells.specs.Cells.{eight_of}
-use Rattle.laws.specs.Values.{SoFar, none_yet, one_more, all_there}
+use Rattle.cells.proofs.Values.{SoFar, none_yet, one_more, all_there}
 use Rattle.cells.proofs.rows.put_marks.Statement.{statement}
 use Rattle.cells.proofs.rows.put_marks.Tie as tie
 

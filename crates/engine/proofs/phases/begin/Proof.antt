@@ -15,13 +15,9 @@ gather-requires c κs = search rules
 same_length : tie.Need-same-length
 same_length c = search rules
 
-same-length-2 : tie.Need-same-length-2
-same-length-2 c = search rules
-
 returns : tie.Need-returns
 unfolding read_for begin_of
 returns c = search accesses
 
 pub begin_spec : {M : Type 1} → statement M
-begin_spec =
-    tie.close (tie.spec fetch-u8-requires gather-requires same_length same-length-2 returns)
+begin_spec = tie.close (tie.spec fetch-u8-requires gather-requires same_length returns)

@@ -13,9 +13,6 @@ branch-imm-requires c κs = search rules
 same_length : tie.Need-same-length
 same_length c = search rules
 
-same-length-2 : tie.Need-same-length-2
-same-length-2 c = search rules
-
 returns : tie.Need-returns
 unfolding branch_of
 returns c = search (accesses, branch_as)
@@ -25,4 +22,4 @@ unfolding branch_of
 returns-2 c = search (accesses, branch_as)
 
 pub branch_spec : {M : Type 1} → statement M
-branch_spec = tie.close (tie.spec branch-imm-requires same_length same-length-2 returns returns-2)
+branch_spec = tie.close (tie.spec branch-imm-requires same_length returns returns-2)

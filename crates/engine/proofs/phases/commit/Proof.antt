@@ -53,15 +53,19 @@ same_length c = search rules
 same-length-2 : tie.Need-same-length-2
 same-length-2 c = search rules
 
-same-length-3 : tie.Need-same-length-3
-same-length-3 c = search rules
-
 returns-2 : tie.Need-returns-2
 unfolding commit_of
 returns-2 c = search (accesses, commit_as)
 
+same-length-3 : tie.Need-same-length-3
+same-length-3 c = search rules
+
 same-length-4 : tie.Need-same-length-4
 same-length-4 c = search rules
+
+returns-3 : tie.Need-returns-3
+unfolding commit_of
+returns-3 c = search (rules, commit_as, put_then, ends)
 
 same-length-5 : tie.Need-same-length-5
 same-length-5 c = search rules
@@ -69,9 +73,9 @@ same-length-5 c = search rules
 same-length-6 : tie.Need-same-length-6
 same-length-6 c = search rules
 
-returns-3 : tie.Need-returns-3
+returns-4 : tie.Need-returns-4
 unfolding commit_of
-returns-3 c = commit_as _ _ _ c.before.before.before.before.before.before.before.before.before.before.before.before.before.before.before.before.before.before.before.before.before.stores2.given (put_then c.before.before.before.before.before.before.before.before.before.before.before.before.before.before.before.before.store2.ensures (put_then c.before.before.before.before.before.before.store3.ensures ends))
+returns-4 c = search (accesses, commit_as)
 
 same-length-7 : tie.Need-same-length-7
 same-length-7 c = search rules
@@ -79,34 +83,15 @@ same-length-7 c = search rules
 same-length-8 : tie.Need-same-length-8
 same-length-8 c = search rules
 
-same-length-9 : tie.Need-same-length-9
-same-length-9 c = search rules
-
-returns-4 : tie.Need-returns-4
-unfolding commit_of
-returns-4 c = search (accesses, commit_as)
-
-same-length-10 : tie.Need-same-length-10
-same-length-10 c = search rules
-
-same-length-11 : tie.Need-same-length-11
-same-length-11 c = search rules
-
-same-length-12 : tie.Need-same-length-12
-same-length-12 c = search rules
-
 returns-5 : tie.Need-returns-5
 unfolding commit_of
 returns-5 c = search (accesses, commit_as)
 
-same-length-13 : tie.Need-same-length-13
-same-length-13 c = search rules
+same-length-9 : tie.Need-same-length-9
+same-length-9 c = search rules
 
-same-length-14 : tie.Need-same-length-14
-same-length-14 c = search rules
-
-same-length-15 : tie.Need-same-length-15
-same-length-15 c = search rules
+same-length-10 : tie.Need-same-length-10
+same-length-10 c = search rules
 
 returns-6 : tie.Need-returns-6
 unfolding commit_of
@@ -131,21 +116,16 @@ commit_spec =
     returns
     same_length
     same-length-2
-    same-length-3
     returns-2
+    same-length-3
     same-length-4
+    returns-3
     same-length-5
     same-length-6
-    returns-3
+    returns-4
     same-length-7
     same-length-8
-    same-length-9
-    returns-4
-    same-length-10
-    same-length-11
-    same-length-12
     returns-5
-    same-length-13
-    same-length-14
-    same-length-15
+    same-length-9
+    same-length-10
     returns-6)

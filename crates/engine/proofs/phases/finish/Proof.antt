@@ -21,9 +21,6 @@ same-length-2 c = search rules
 same-length-3 : tie.Need-same-length-3
 same-length-3 c = search rules
 
-same-length-4 : tie.Need-same-length-4
-same-length-4 c = search rules
-
 returns : tie.Need-returns
 unfolding finish_of
 returns c = search accesses
@@ -31,11 +28,4 @@ returns c = search accesses
 pub finish_spec : {M : Type 1} → statement M
 finish_spec =
     tie.close
-    (tie.spec
-    commit-requires
-    branch-requires
-    same_length
-    same-length-2
-    same-length-3
-    same-length-4
-    returns)
+    (tie.spec commit-requires branch-requires same_length same-length-2 same-length-3 returns)

@@ -2,7 +2,6 @@
 -- Assumes nothing.
 use borrow.Author.Rules.{rules}
 use Rattle.instructions.specs.Step.{finish_of, step_of}
-use Rattle.memory.specs.Paged.{counting}
 use Rattle.memory.proofs.Laws.{accesses, by}
 use Rattle.engine.proofs.phases.instruction.Statement.{statement}
 use Rattle.engine.proofs.phases.instruction.Tie as tie
@@ -14,7 +13,7 @@ effect-of-requires : tie.Need-effect-of-requires
 effect-of-requires c κs = search rules
 
 finish-requires : tie.Need-finish-requires
-finish-requires c κs = search (rules, c.before.before.before.before.before.before.before.before.before.before.before.before.before.before.before.before.before.before.before.requires)
+finish-requires c κs = search rules
 
 same_length : tie.Need-same-length
 same_length c = search rules
@@ -25,12 +24,9 @@ same-length-2 c = search rules
 same-length-3 : tie.Need-same-length-3
 same-length-3 c = search rules
 
-same-length-4 : tie.Need-same-length-4
-same-length-4 c = search rules
-
 returns : tie.Need-returns
 unfolding step_of
-returns c = search (accesses, by {kind = counting} finish_of)
+returns c = search (accesses, by finish_of)
 
 pub instruction_spec : {M : Type 1} → statement M
 instruction_spec =
@@ -42,5 +38,4 @@ instruction_spec =
     same_length
     same-length-2
     same-length-3
-    same-length-4
     returns)

@@ -1,7 +1,7 @@
 -- The return PC, then the status byte, and PC goes to the target.
 -- Assumes nothing.
 use borrow.Author.Rules.{rules}
-use Rattle.memory.proofs.Laws.{chain, ends}
+use Rattle.memory.proofs.Laws.{accesses}
 use Rattle.instructions.specs.Step.{commit_of}
 use Rattle.engine.proofs.phases.interrupt.Statement.{statement}
 use Rattle.engine.proofs.phases.interrupt.Tie as tie
@@ -18,12 +18,9 @@ same_length c = search rules
 same-length-2 : tie.Need-same-length-2
 same-length-2 c = search rules
 
-same-length-3 : tie.Need-same-length-3
-same-length-3 c = search rules
-
 returns : tie.Need-returns
 unfolding commit_of
-returns c = chain _ c.before.before.before.before.before.before.before.before.before.before.before.before.before.before.before.before.push-to-stack-u16.ensures (chain _ c.before.before.before.before.before.before.push-to-stack-u8.ensures ends)
+returns c = search accesses
 
 pub interrupt_spec : {M : Type 1} → statement M
 interrupt_spec =
@@ -33,5 +30,4 @@ interrupt_spec =
     push-to-stack-u8-requires
     same_length
     same-length-2
-    same-length-3
     returns)

@@ -15,12 +15,9 @@ load-requires c κs = search rules
 same_length : tie.Need-same-length
 same_length c = search rules
 
-same-length-2 : tie.Need-same-length-2
-same-length-2 c = search rules
-
 returns : tie.Need-returns
 unfolding gather_of
 returns c = search accesses
 
 pub direct_x_spec : {M : Type 1} → statement M
-direct_x_spec = tie.close (tie.spec dx-requires load-requires same_length same-length-2 returns)
+direct_x_spec = tie.close (tie.spec dx-requires load-requires same_length returns)

@@ -15,13 +15,9 @@ byte-only-requires c κs = search rules
 same_length : tie.Need-same-length
 same_length c = search rules
 
-same-length-2 : tie.Need-same-length-2
-same-length-2 c = search rules
-
 returns : tie.Need-returns
 unfolding gather_of
 returns c = search accesses
 
 pub immediate_spec : {M : Type 1} → statement M
-immediate_spec =
-    tie.close (tie.spec fetch-u8-requires byte-only-requires same_length same-length-2 returns)
+immediate_spec = tie.close (tie.spec fetch-u8-requires byte-only-requires same_length returns)

@@ -15,19 +15,10 @@ byte-only-requires c κs = search rules
 same_length : tie.Need-same-length
 same_length c = search rules
 
-same-length-2 : tie.Need-same-length-2
-same-length-2 c = search rules
-
 returns : tie.Need-returns
 unfolding gather_of
 returns c = search accesses
 
 pub pulled_spec : {M : Type 1} → statement M
 pulled_spec =
-    tie.close
-    (tie.spec
-    pull-from-stack-u8-requires
-    byte-only-requires
-    same_length
-    same-length-2
-    returns)
+    tie.close (tie.spec pull-from-stack-u8-requires byte-only-requires same_length returns)

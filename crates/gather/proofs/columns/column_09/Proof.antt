@@ -17,9 +17,6 @@ direct-direct-requires c κs = search rules
 same_length : tie.Need-same-length
 same_length c = search rules
 
-same-length-2 : tie.Need-same-length-2
-same-length-2 c = search rules
-
 returns : tie.Need-returns
 unfolding rows gather_of
 returns c = search (accesses, first_six 9 direct_direct refl)
@@ -27,11 +24,8 @@ returns c = search (accesses, first_six 9 direct_direct refl)
 abs-requires : tie.Need-abs-requires
 abs-requires c κs = search rules
 
-same-length-3 : tie.Need-same-length-3
-same-length-3 c = search rules
-
-same-length-4 : tie.Need-same-length-4
-same-length-4 c = search rules
+same-length-2 : tie.Need-same-length-2
+same-length-2 c = search rules
 
 returns-2 : tie.Need-returns-2
 unfolding rows at_absolute
@@ -40,12 +34,4 @@ returns-2 c = search (accesses, last_two 9 at_absolute refl)
 pub column_09_spec : {M : Type 1} → statement M
 column_09_spec =
     tie.close
-    (tie.spec
-    direct-direct-requires
-    same_length
-    same-length-2
-    returns
-    abs-requires
-    same-length-3
-    same-length-4
-    returns-2)
+    (tie.spec direct-direct-requires same_length returns abs-requires same-length-2 returns-2)

@@ -20,9 +20,6 @@ implied-requires c κs = search rules
 same_length : tie.Need-same-length
 same_length c = search rules
 
-same-length-2 : tie.Need-same-length-2
-same-length-2 c = search rules
-
 returns : tie.Need-returns
 unfolding rows gather_of
 returns c = search (accesses, opcodes (141 ∷ 173 ∷ 205 ∷ []) immediate refl)
@@ -33,11 +30,4 @@ returns-2 c = search (accesses, others 13 ((141 ∷ 173 ∷ 205 ∷ []) ∷ []) 
 
 pub column_0d_spec : {M : Type 1} → statement M
 column_0d_spec =
-    tie.close
-    (tie.spec
-    immediate-requires
-    implied-requires
-    same_length
-    same-length-2
-    returns
-    returns-2)
+    tie.close (tie.spec immediate-requires implied-requires same_length returns returns-2)

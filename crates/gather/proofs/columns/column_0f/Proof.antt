@@ -36,38 +36,26 @@ implied-requires c κs = search rules
 same_length : tie.Need-same-length
 same_length c = search rules
 
-same-length-2 : tie.Need-same-length-2
-same-length-2 c = search rules
-
 returns : tie.Need-returns
 unfolding rows gather_of
 returns c = search (accesses, opcodes (15 ∷ []) break_vector refl)
 
-same-length-3 : tie.Need-same-length-3
-same-length-3 c = search rules
-
-same-length-4 : tie.Need-same-length-4
-same-length-4 c = search rules
+same-length-2 : tie.Need-same-length-2
+same-length-2 c = search rules
 
 returns-2 : tie.Need-returns-2
 unfolding rows gather_of
 returns-2 c = search (accesses, opcodes (79 ∷ []) upper_page refl)
 
-same-length-5 : tie.Need-same-length-5
-same-length-5 c = search rules
-
-same-length-6 : tie.Need-same-length-6
-same-length-6 c = search rules
+same-length-3 : tie.Need-same-length-3
+same-length-3 c = search rules
 
 returns-3 : tie.Need-returns-3
 unfolding rows gather_of
 returns-3 c = search (accesses, opcodes (111 ∷ []) pulled_word refl)
 
-same-length-7 : tie.Need-same-length-7
-same-length-7 c = search rules
-
-same-length-8 : tie.Need-same-length-8
-same-length-8 c = search rules
+same-length-4 : tie.Need-same-length-4
+same-length-4 c = search rules
 
 returns-4 : tie.Need-returns-4
 unfolding rows gather_of
@@ -93,16 +81,12 @@ column_0f_spec =
     aim-requires
     implied-requires
     same_length
-    same-length-2
     returns
-    same-length-3
-    same-length-4
+    same-length-2
     returns-2
-    same-length-5
-    same-length-6
+    same-length-3
     returns-3
-    same-length-7
-    same-length-8
+    same-length-4
     returns-4
     returns-5
     returns-6)

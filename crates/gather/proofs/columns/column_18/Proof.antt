@@ -17,9 +17,6 @@ direct-immediate-requires c κs = search rules
 same_length : tie.Need-same-length
 same_length c = search rules
 
-same-length-2 : tie.Need-same-length-2
-same-length-2 c = search rules
-
 returns : tie.Need-returns
 unfolding rows gather_of
 returns c = search (accesses, first_six 24 direct_immediate refl)
@@ -27,11 +24,8 @@ returns c = search (accesses, first_six 24 direct_immediate refl)
 d-requires : tie.Need-d-requires
 d-requires c κs = search rules
 
-same-length-3 : tie.Need-same-length-3
-same-length-3 c = search rules
-
-same-length-4 : tie.Need-same-length-4
-same-length-4 c = search rules
+same-length-2 : tie.Need-same-length-2
+same-length-2 c = search rules
 
 returns-2 : tie.Need-returns-2
 unfolding rows in_direct
@@ -40,12 +34,4 @@ returns-2 c = search (accesses, last_two 24 in_direct refl)
 pub column_18_spec : {M : Type 1} → statement M
 column_18_spec =
     tie.close
-    (tie.spec
-    direct-immediate-requires
-    same_length
-    same-length-2
-    returns
-    d-requires
-    same-length-3
-    same-length-4
-    returns-2)
+    (tie.spec direct-immediate-requires same_length returns d-requires same-length-2 returns-2)

@@ -17,9 +17,6 @@ at-x-at-y-requires c κs = search rules
 same_length : tie.Need-same-length
 same_length c = search rules
 
-same-length-2 : tie.Need-same-length-2
-same-length-2 c = search rules
-
 returns : tie.Need-returns
 unfolding rows gather_of
 returns c = search (accesses, first_six 25 at_x_at_y refl)
@@ -27,11 +24,8 @@ returns c = search (accesses, first_six 25 at_x_at_y refl)
 dy-requires : tie.Need-dy-requires
 dy-requires c κs = search rules
 
-same-length-3 : tie.Need-same-length-3
-same-length-3 c = search rules
-
-same-length-4 : tie.Need-same-length-4
-same-length-4 c = search rules
+same-length-2 : tie.Need-same-length-2
+same-length-2 c = search rules
 
 returns-2 : tie.Need-returns-2
 unfolding rows in_direct_y
@@ -39,13 +33,4 @@ returns-2 c = search (accesses, last_two 25 in_direct_y refl)
 
 pub column_19_spec : {M : Type 1} → statement M
 column_19_spec =
-    tie.close
-    (tie.spec
-    at-x-at-y-requires
-    same_length
-    same-length-2
-    returns
-    dy-requires
-    same-length-3
-    same-length-4
-    returns-2)
+    tie.close (tie.spec at-x-at-y-requires same_length returns dy-requires same-length-2 returns-2)

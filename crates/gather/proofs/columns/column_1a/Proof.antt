@@ -23,28 +23,19 @@ direct-word-requires c κs = search rules
 same_length : tie.Need-same-length
 same_length c = search rules
 
-same-length-2 : tie.Need-same-length-2
-same-length-2 c = search rules
-
 returns : tie.Need-returns
 unfolding rows gather_of
 returns c = search (accesses, opcodes (218 ∷ []) to_direct_word refl)
 
-same-length-3 : tie.Need-same-length-3
-same-length-3 c = search rules
-
-same-length-4 : tie.Need-same-length-4
-same-length-4 c = search rules
+same-length-2 : tie.Need-same-length-2
+same-length-2 c = search rules
 
 returns-2 : tie.Need-returns-2
 unfolding rows gather_of
 returns-2 c = search (accesses, opcodes (250 ∷ []) direct_to_direct refl)
 
-same-length-5 : tie.Need-same-length-5
-same-length-5 c = search rules
-
-same-length-6 : tie.Need-same-length-6
-same-length-6 c = search rules
+same-length-3 : tie.Need-same-length-3
+same-length-3 c = search rules
 
 returns-3 : tie.Need-returns-3
 unfolding rows gather_of
@@ -58,11 +49,8 @@ column_1a_spec =
     direct-to-direct-requires
     direct-word-requires
     same_length
-    same-length-2
     returns
-    same-length-3
-    same-length-4
+    same-length-2
     returns-2
-    same-length-5
-    same-length-6
+    same-length-3
     returns-3)

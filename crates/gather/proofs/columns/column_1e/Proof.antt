@@ -26,28 +26,19 @@ implied-requires c κs = search rules
 same_length : tie.Need-same-length
 same_length c = search rules
 
-same-length-2 : tie.Need-same-length-2
-same-length-2 c = search rules
-
 returns : tie.Need-returns
 unfolding rows gather_of
 returns c = search (accesses, opcodes (30 ∷ 94 ∷ []) absolute refl)
 
-same-length-3 : tie.Need-same-length-3
-same-length-3 c = search rules
-
-same-length-4 : tie.Need-same-length-4
-same-length-4 c = search rules
+same-length-2 : tie.Need-same-length-2
+same-length-2 c = search rules
 
 returns-2 : tie.Need-returns-2
 unfolding rows gather_of
 returns-2 c = search (accesses, opcodes (62 ∷ 126 ∷ []) direct refl)
 
-same-length-5 : tie.Need-same-length-5
-same-length-5 c = search rules
-
-same-length-6 : tie.Need-same-length-6
-same-length-6 c = search rules
+same-length-3 : tie.Need-same-length-3
+same-length-3 c = search rules
 
 returns-3 : tie.Need-returns-3
 unfolding rows gather_of
@@ -66,12 +57,9 @@ column_1e_spec =
     direct-x-requires
     implied-requires
     same_length
-    same-length-2
     returns
-    same-length-3
-    same-length-4
+    same-length-2
     returns-2
-    same-length-5
-    same-length-6
+    same-length-3
     returns-3
     returns-4)

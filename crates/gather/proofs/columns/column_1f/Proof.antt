@@ -2,7 +2,6 @@
 -- Assumes nothing.
 use mathlib.Core.Path.{refl}
 use mathlib.Core.List.{[], ◌∷◌}
-use Rattle.memory.specs.Paged.{counting}
 use Rattle.memory.proofs.Laws.{accesses, by}
 use Rattle.instructions.specs.Rows.{rows}
 use Rattle.instructions.specs.Rows.Mode.{at_x, implied, pulled_three, word, word_at_x}
@@ -33,42 +32,30 @@ implied-requires c κs = search rules
 same_length : tie.Need-same-length
 same_length c = search rules
 
-same-length-2 : tie.Need-same-length-2
-same-length-2 c = search rules
-
 returns : tie.Need-returns
 unfolding rows gather_of
 returns c = search (accesses, opcodes (31 ∷ []) word_at_x refl)
 
-same-length-3 : tie.Need-same-length-3
-same-length-3 c = search rules
-
-same-length-4 : tie.Need-same-length-4
-same-length-4 c = search rules
+same-length-2 : tie.Need-same-length-2
+same-length-2 c = search rules
 
 returns-2 : tie.Need-returns-2
 unfolding rows gather_of
 returns-2 c = search (accesses, opcodes (63 ∷ 95 ∷ []) word refl)
 
-same-length-5 : tie.Need-same-length-5
-same-length-5 c = search rules
-
-same-length-6 : tie.Need-same-length-6
-same-length-6 c = search rules
+same-length-3 : tie.Need-same-length-3
+same-length-3 c = search rules
 
 returns-3 : tie.Need-returns-3
 unfolding rows gather_of
 returns-3 c = search (accesses, opcodes (127 ∷ []) pulled_three refl)
 
-same-length-7 : tie.Need-same-length-7
-same-length-7 c = search rules
-
-same-length-8 : tie.Need-same-length-8
-same-length-8 c = search rules
+same-length-4 : tie.Need-same-length-4
+same-length-4 c = search rules
 
 returns-4 : tie.Need-returns-4
 unfolding rows gather_of
-returns-4 c = search (accesses, opcodes (191 ∷ []) at_x refl, by {kind = counting} loaded)
+returns-4 c = search (accesses, opcodes (191 ∷ []) at_x refl, by loaded)
 
 returns-5 : tie.Need-returns-5
 unfolding rows gather_of
@@ -85,15 +72,11 @@ column_1f_spec =
     load-requires
     implied-requires
     same_length
-    same-length-2
     returns
-    same-length-3
-    same-length-4
+    same-length-2
     returns-2
-    same-length-5
-    same-length-6
+    same-length-3
     returns-3
-    same-length-7
-    same-length-8
+    same-length-4
     returns-4
     returns-5)

@@ -14,11 +14,8 @@ place-requires c κs = search rules
 same_length : tie.Need-same-length
 same_length c = search rules
 
-same-length-2 : tie.Need-same-length-2
-same-length-2 c = search rules
-
 returns : tie.Need-returns
 returns c = search accesses
 
 pub idy_spec : {M : Type 1} → statement M
-idy_spec = tie.close (tie.spec idy-requires place-requires same_length same-length-2 returns)
+idy_spec = tie.close (tie.spec idy-requires place-requires same_length returns)

@@ -12,12 +12,9 @@ read-requires c κs = search rules
 same_length : tie.Need-same-length
 same_length c = search rules
 
-same-length-2 : tie.Need-same-length-2
-same-length-2 c = search rules
-
 returns : tie.Need-returns
 unfolding loaded
 returns c = search accesses
 
 pub load_spec : {M : Type 1} → statement M
-load_spec = tie.close (tie.spec read-requires same_length same-length-2 returns)
+load_spec = tie.close (tie.spec read-requires same_length returns)

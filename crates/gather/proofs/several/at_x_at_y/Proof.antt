@@ -2,8 +2,8 @@
 -- Assumes nothing.
 use mathlib.Core.Path.{◌≡◌}
 use borrow.Author.Rules.{rules}
-use Rattle.memory.specs.Access.{Outcome, DoesOn}
-use Rattle.memory.specs.Paged.{Paged, counting}
+use Rattle.memory.specs.World.{World}
+use Rattle.memory.specs.Access.{Outcome, Does}
 use Rattle.processor.specs.declared.Processor.{Processor}
 use Rattle.modes.specs.Modes.{indirect}
 use Rattle.modes.specs.declared.Addressed.{Addressed}
@@ -14,9 +14,8 @@ use Rattle.gather.specs.Columns.{plainly}
 use Rattle.gather.proofs.several.at_x_at_y.Statement.{statement}
 use Rattle.gather.proofs.several.at_x_at_y.Tie as tie
 
-from_registers : (cpu : Processor) {f g : Addressed} {w : Paged} {o : Outcome Paged Operands}
-    → f ≡ indirect cpu.y cpu → g ≡ indirect cpu.x cpu
-    → DoesOn counting (both_loaded f.at g) w o → DoesOn counting (plainly at_x_at_y cpu) w o
+from_registers : (cpu : Processor) {f g : Addressed} {w : World} {o : Outcome World Operands}
+    → f ≡ indirect cpu.y cpu → g ≡ indirect cpu.x cpu → Does (both_loaded f.at g) w o → Does (plainly at_x_at_y cpu) w o
 unfolding gather_of
 from_registers cpu e h does = rw (e, h) at does
 
@@ -32,19 +31,9 @@ load-both-requires c κs = search rules
 same_length : tie.Need-same-length
 same_length c = search rules
 
-same-length-2 : tie.Need-same-length-2
-same-length-2 c = search rules
-
 returns : tie.Need-returns
 returns c = search (rules, from_registers)
 
 pub at_x_at_y_spec : {M : Type 1} → statement M
 at_x_at_y_spec =
-    tie.close
-    (tie.spec
-    iy-requires
-    ix-requires
-    load-both-requires
-    same_length
-    same-length-2
-    returns)
+    tie.close (tie.spec iy-requires ix-requires load-both-requires same_length returns)

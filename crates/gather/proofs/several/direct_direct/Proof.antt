@@ -1,7 +1,7 @@
 -- Both operand bytes are fetched before either address is read, and the source's comes first.
 -- Assumes nothing.
 use borrow.Author.Rules.{rules}
-use Rattle.memory.proofs.Laws.{chain}
+use Rattle.memory.proofs.Laws.{accesses}
 use Rattle.instructions.specs.Gather.{gather_of}
 use Rattle.gather.proofs.several.direct_direct.Statement.{statement}
 use Rattle.gather.proofs.several.direct_direct.Tie as tie
@@ -13,27 +13,15 @@ d-requires-2 : tie.Need-d-requires-2
 d-requires-2 c κs = search rules
 
 load-both-requires : tie.Need-load-both-requires
-load-both-requires c κs = search (rules, c.before.before.before.before.before.before.before.before.before.before.before.before.before.before.before.before.before.before.before.before.before.requires)
+load-both-requires c κs = search rules
 
 same_length : tie.Need-same-length
-same_length c = search (rules, c.before.before.before.before.before.before.before.before.before.before.before.before.before.before.before.before.before.before.before.d.auto)
-
-same-length-2 : tie.Need-same-length-2
-same-length-2 c = search rules
+same_length c = search rules
 
 returns : tie.Need-returns
 unfolding gather_of
-returns c =
-    chain _ c.before.before.before.before.before.before.before.before.before.before.before.before.before.before.before.before.before.before.before.d.ensures
-    (chain _ c.before.before.before.before.before.before.before.before.before.before.before.d2.ensures c.before.before.before.before.load-both.ensures)
+returns c = search accesses
 
 pub direct_direct_spec : {M : Type 1} → statement M
 direct_direct_spec =
-    tie.close
-    (tie.spec
-    d-requires
-    d-requires-2
-    load-both-requires
-    same_length
-    same-length-2
-    returns)
+    tie.close (tie.spec d-requires d-requires-2 load-both-requires same_length returns)

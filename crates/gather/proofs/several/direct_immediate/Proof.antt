@@ -1,7 +1,7 @@
 -- The immediate, then the target's address, then a read there.
 -- Assumes nothing.
 use borrow.Author.Rules.{rules}
-use Rattle.memory.proofs.Laws.{chain, read_then, ends}
+use Rattle.memory.proofs.Laws.{accesses}
 use Rattle.instructions.specs.Gather.{gather_of}
 use Rattle.gather.proofs.several.direct_immediate.Statement.{statement}
 use Rattle.gather.proofs.several.direct_immediate.Tie as tie
@@ -13,28 +13,15 @@ d-requires : tie.Need-d-requires
 d-requires c κs = search rules
 
 read-requires : tie.Need-read-requires
-read-requires c κs = search (rules, c.before.before.before.before.before.before.before.before.before.before.before.before.before.before.before.before.before.before.before.before.before.requires)
+read-requires c κs = search rules
 
 same_length : tie.Need-same-length
 same_length c = search rules
 
-same-length-2 : tie.Need-same-length-2
-same-length-2 c = search rules
-
 returns : tie.Need-returns
 unfolding gather_of
-returns c =
-    chain _ c.before.before.before.before.before.before.before.before.before.before.before.before.before.before.before.before.before.before.before.before.fetch-u8.ensures
-    (chain _ c.before.before.before.before.before.before.before.before.before.before.before.before.d.ensures
-    (read_then c.before.before.before.before.before.read.ensures ends))
+returns c = search accesses
 
 pub direct_immediate_spec : {M : Type 1} → statement M
 direct_immediate_spec =
-    tie.close
-    (tie.spec
-    fetch-u8-requires
-    d-requires
-    read-requires
-    same_length
-    same-length-2
-    returns)
+    tie.close (tie.spec fetch-u8-requires d-requires read-requires same_length returns)

@@ -1,7 +1,7 @@
 -- Both operand bytes are fetched, the source's first; then the source alone is read.
 -- Assumes nothing.
 use borrow.Author.Rules.{rules}
-use Rattle.memory.proofs.Laws.{chain}
+use Rattle.memory.proofs.Laws.{accesses}
 use Rattle.instructions.specs.Gather.{gather_of}
 use Rattle.gather.proofs.several.direct_to_direct.Statement.{statement}
 use Rattle.gather.proofs.several.direct_to_direct.Tie as tie
@@ -13,27 +13,15 @@ d-requires-2 : tie.Need-d-requires-2
 d-requires-2 c κs = search rules
 
 load-source-requires : tie.Need-load-source-requires
-load-source-requires c κs = search (rules, c.before.before.before.before.before.before.before.before.before.before.before.before.before.before.before.before.before.before.before.before.before.requires)
+load-source-requires c κs = search rules
 
 same_length : tie.Need-same-length
-same_length c = search (rules, c.before.before.before.before.before.before.before.before.before.before.before.before.before.before.before.before.before.before.before.d.auto)
-
-same-length-2 : tie.Need-same-length-2
-same-length-2 c = search rules
+same_length c = search rules
 
 returns : tie.Need-returns
 unfolding gather_of
-returns c =
-    chain _ c.before.before.before.before.before.before.before.before.before.before.before.before.before.before.before.before.before.before.before.d.ensures
-    (chain _ c.before.before.before.before.before.before.before.before.before.before.before.d2.ensures c.before.before.before.before.load-source.ensures)
+returns c = search accesses
 
 pub direct_to_direct_spec : {M : Type 1} → statement M
 direct_to_direct_spec =
-    tie.close
-    (tie.spec
-    d-requires
-    d-requires-2
-    load-source-requires
-    same_length
-    same-length-2
-    returns)
+    tie.close (tie.spec d-requires d-requires-2 load-source-requires same_length returns)

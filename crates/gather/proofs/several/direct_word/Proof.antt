@@ -2,7 +2,7 @@
 -- Assumes nothing.
 use borrow.Author.Rules.{rules}
 use Rattle.instructions.specs.Gather.{gather_of}
-use Rattle.memory.proofs.Laws.{chain, read_then, ends}
+use Rattle.memory.proofs.Laws.{ends, chain, read_then}
 use Rattle.gather.proofs.several.direct_word.Statement.{statement}
 use Rattle.gather.proofs.several.direct_word.Tie as tie
 
@@ -18,16 +18,10 @@ read-requires-2 c κs = search rules
 same_length : tie.Need-same-length
 same_length c = search rules
 
-same-length-2 : tie.Need-same-length-2
-same-length-2 c = search rules
-
 returns : tie.Need-returns
 unfolding gather_of
-returns c =
-    chain _ c.before.before.before.before.before.before.before.before.before.before.before.before.before.before.before.before.before.before.before.dw.ensures
-    (read_then c.before.before.before.before.before.before.before.before.before.before.before.before.read.ensures
-    (read_then c.before.before.before.before.before.read2.ensures ends))
+returns c = search (rules, chain, read_then, ends)
 
 pub direct_word_spec : {M : Type 1} → statement M
 direct_word_spec =
-    tie.close (tie.spec dw-requires read-requires read-requires-2 same_length same-length-2 returns)
+    tie.close (tie.spec dw-requires read-requires read-requires-2 same_length returns)

@@ -4,7 +4,8 @@
 use borrow.Author.Rules.{rules}
 use Rattle.modes.proofs.Laws.{one_of_eight}
 use Rattle.instructions.specs.Gather.{gather_of}
-use Rattle.memory.proofs.Laws.{chain, read_then, ends_at}
+use Rattle.memory.proofs.Laws.{accesses}
+use Rattle.instructions.proofs.Same.{same_operands}
 use Rattle.gather.proofs.several.memory_bit.Statement.{statement}
 use Rattle.gather.proofs.several.memory_bit.Tie as tie
 
@@ -20,23 +21,10 @@ bit-value-requires c κs = search one_of_eight
 same_length : tie.Need-same-length
 same_length c = search rules
 
-same-length-2 : tie.Need-same-length-2
-same-length-2 c = search rules
-
 returns : tie.Need-returns
 unfolding gather_of
-returns c =
-    chain _ c.before.before.before.before.before.before.before.before.before.before.before.before.before.bit-operand.ensures
-    (read_then c.before.before.before.before.before.before.read.ensures
-    (ends_at (rw c.bit-value.ensures)))
+returns c = search (accesses, same_operands)
 
 pub memory_bit_spec : {M : Type 1} → statement M
 memory_bit_spec =
-    tie.close
-    (tie.spec
-    bit-operand-requires
-    read-requires
-    bit-value-requires
-    same_length
-    same-length-2
-    returns)
+    tie.close (tie.spec bit-operand-requires read-requires bit-value-requires same_length returns)

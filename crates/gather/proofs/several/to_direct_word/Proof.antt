@@ -12,12 +12,9 @@ dw-requires c κs = search rules
 same_length : tie.Need-same-length
 same_length c = search rules
 
-same-length-2 : tie.Need-same-length-2
-same-length-2 c = search rules
-
 returns : tie.Need-returns
 unfolding gather_of
 returns c = search accesses
 
 pub to_direct_word_spec : {M : Type 1} → statement M
-to_direct_word_spec = tie.close (tie.spec dw-requires same_length same-length-2 returns)
+to_direct_word_spec = tie.close (tie.spec dw-requires same_length returns)

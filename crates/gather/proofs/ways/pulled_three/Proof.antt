@@ -15,9 +15,6 @@ pull-from-stack-u16-requires c κs = search rules
 same_length : tie.Need-same-length
 same_length c = search rules
 
-same-length-2 : tie.Need-same-length-2
-same-length-2 c = search rules
-
 returns : tie.Need-returns
 unfolding gather_of
 returns c = search accesses
@@ -25,9 +22,4 @@ returns c = search accesses
 pub pulled_three_spec : {M : Type 1} → statement M
 pulled_three_spec =
     tie.close
-    (tie.spec
-    pull-from-stack-u8-requires
-    pull-from-stack-u16-requires
-    same_length
-    same-length-2
-    returns)
+    (tie.spec pull-from-stack-u8-requires pull-from-stack-u16-requires same_length returns)

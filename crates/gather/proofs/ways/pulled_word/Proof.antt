@@ -15,13 +15,10 @@ aim-requires c κs = search rules
 same_length : tie.Need-same-length
 same_length c = search rules
 
-same-length-2 : tie.Need-same-length-2
-same-length-2 c = search rules
-
 returns : tie.Need-returns
 unfolding gather_of
 returns c = search accesses
 
 pub pulled_word_spec : {M : Type 1} → statement M
 pulled_word_spec =
-    tie.close (tie.spec pull-from-stack-u16-requires aim-requires same_length same-length-2 returns)
+    tie.close (tie.spec pull-from-stack-u16-requires aim-requires same_length returns)

@@ -17,19 +17,9 @@ vector-at-requires c κs = search rules
 same_length : tie.Need-same-length
 same_length c = search rules
 
-same-length-2 : tie.Need-same-length-2
-same-length-2 c = search rules
-
 returns : tie.Need-returns
 returns c = search accesses
 
 pub table_vector_spec : {M : Type 1} → statement M
 table_vector_spec =
-    tie.close
-    (tie.spec
-    mul-vector-at
-    sub-vector-at
-    vector-at-requires
-    same_length
-    same-length-2
-    returns)
+    tie.close (tie.spec mul-vector-at sub-vector-at vector-at-requires same_length returns)

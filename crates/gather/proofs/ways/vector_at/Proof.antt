@@ -12,12 +12,9 @@ read-u16-requires c κs = search rules
 same_length : tie.Need-same-length
 same_length c = search rules
 
-same-length-2 : tie.Need-same-length-2
-same-length-2 c = search rules
-
 returns : tie.Need-returns
 unfolding vector
 returns c = search accesses
 
 pub vector_at_spec : {M : Type 1} → statement M
-vector_at_spec = tie.close (tie.spec read-u16-requires same_length same-length-2 returns)
+vector_at_spec = tie.close (tie.spec read-u16-requires same_length returns)

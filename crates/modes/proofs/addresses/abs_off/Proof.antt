@@ -16,19 +16,10 @@ wrapping-add-u16-requires c κs = search rules
 same_length : tie.Need-same-length
 same_length c = search rules
 
-same-length-2 : tie.Need-same-length-2
-same-length-2 c = search rules
-
 returns : tie.Need-returns
 unfolding absolute
 returns c = search (accesses, same)
 
 pub abs_off_spec : {M : Type 1} → statement M
 abs_off_spec =
-    tie.close
-    (tie.spec
-    fetch-u16-requires
-    wrapping-add-u16-requires
-    same_length
-    same-length-2
-    returns)
+    tie.close (tie.spec fetch-u16-requires wrapping-add-u16-requires same_length returns)

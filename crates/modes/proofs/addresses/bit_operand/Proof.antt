@@ -15,13 +15,9 @@ cast-bit c = search rules
 same_length : tie.Need-same-length
 same_length c = search rules
 
-same-length-2 : tie.Need-same-length-2
-same-length-2 c = search rules
-
 returns : tie.Need-returns
 unfolding bit_operand
 returns c = search accesses
 
 pub bit_operand_spec : {M : Type 1} → statement M
-bit_operand_spec =
-    tie.close (tie.spec fetch-u16-requires cast-bit same_length same-length-2 returns)
+bit_operand_spec = tie.close (tie.spec fetch-u16-requires cast-bit same_length returns)

@@ -16,12 +16,9 @@ page-requires c κs = search rules
 same_length : tie.Need-same-length
 same_length c = search rules
 
-same-length-2 : tie.Need-same-length-2
-same-length-2 c = search rules
-
 returns : tie.Need-returns
 unfolding direct
 returns c = search (accesses, same)
 
 pub d_off_spec : {M : Type 1} → statement M
-d_off_spec = tie.close (tie.spec fetch-u8-requires page-requires same_length same-length-2 returns)
+d_off_spec = tie.close (tie.spec fetch-u8-requires page-requires same_length returns)

@@ -19,20 +19,9 @@ page-requires-2 c κs = search rules
 same_length : tie.Need-same-length
 same_length c = search rules
 
-same-length-2 : tie.Need-same-length-2
-same-length-2 c = search rules
-
 returns : tie.Need-returns
 unfolding direct_word
 returns c = search (accesses, same)
 
 pub dw_spec : {M : Type 1} → statement M
-dw_spec =
-    tie.close
-    (tie.spec
-    fetch-u8-requires
-    page-requires
-    page-requires-2
-    same_length
-    same-length-2
-    returns)
+dw_spec = tie.close (tie.spec fetch-u8-requires page-requires page-requires-2 same_length returns)

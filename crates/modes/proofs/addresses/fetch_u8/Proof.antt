@@ -16,12 +16,9 @@ past-requires c κs = search rules
 same_length : tie.Need-same-length
 same_length c = search rules
 
-same-length-2 : tie.Need-same-length-2
-same-length-2 c = search rules
-
 returns : tie.Need-returns
 unfolding fetch
 returns c = search (accesses, same)
 
 pub fetch_u8_spec : {M : Type 1} → statement M
-fetch_u8_spec = tie.close (tie.spec read-requires past-requires same_length same-length-2 returns)
+fetch_u8_spec = tie.close (tie.spec read-requires past-requires same_length returns)

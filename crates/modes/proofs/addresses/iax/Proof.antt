@@ -15,12 +15,9 @@ read-u16-requires c κs = search rules
 same_length : tie.Need-same-length
 same_length c = search rules
 
-same-length-2 : tie.Need-same-length-2
-same-length-2 c = search rules
-
 returns : tie.Need-returns
 unfolding absolute_pointer
 returns c = search accesses
 
 pub iax_spec : {M : Type 1} → statement M
-iax_spec = tie.close (tie.spec absx-requires read-u16-requires same_length same-length-2 returns)
+iax_spec = tie.close (tie.spec absx-requires read-u16-requires same_length returns)

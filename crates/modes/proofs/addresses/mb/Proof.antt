@@ -1,7 +1,8 @@
 -- The operand, then a read where it points. Its bit is one of eight, since the word it comes from was made of two bytes.
 -- Assumes nothing.
 use Rattle.std.proofs.Common.{rules}
-use Rattle.memory.proofs.Laws.{chain, read_then, ends_at}
+use Rattle.modes.proofs.Same.{same}
+use Rattle.memory.proofs.Laws.{accesses}
 use Rattle.modes.specs.Modes.{bit_read}
 use Rattle.modes.proofs.Laws.{one_of_eight}
 use Rattle.modes.proofs.addresses.mb.Statement.{statement}
@@ -19,20 +20,10 @@ has-bit-requires c κs = search one_of_eight
 same_length : tie.Need-same-length
 same_length c = search rules
 
-same-length-2 : tie.Need-same-length-2
-same-length-2 c = search rules
-
 returns : tie.Need-returns
 unfolding bit_read
-returns c = chain _ c.before.before.before.before.before.before.before.before.before.before.before.before.before.bit-operand.ensures (read_then c.before.before.before.before.before.read.ensures (ends_at (rw c.has-bit.ensures)))
+returns c = search (accesses, same)
 
 pub mb_spec : {M : Type 1} → statement M
 mb_spec =
-    tie.close
-    (tie.spec
-    bit-operand-requires
-    read-requires
-    has-bit-requires
-    same_length
-    same-length-2
-    returns)
+    tie.close (tie.spec bit-operand-requires read-requires has-bit-requires same_length returns)

@@ -1,7 +1,8 @@
 -- Two reads, the second where the edition says, and the index added to what they make.
 -- Assumes nothing.
 use Rattle.std.proofs.Common.{rules}
-use Rattle.memory.proofs.Laws.{read_then, read_at_lem, ends_at}
+use Rattle.modes.proofs.Same.{same}
+use Rattle.memory.proofs.Laws.{accesses}
 use Rattle.modes.specs.Modes.{pointed}
 use Rattle.modes.proofs.addresses.pointer.Statement.{statement}
 use Rattle.modes.proofs.addresses.pointer.Tie as tie
@@ -33,16 +34,9 @@ wrapping-add-u16-requires c κs = search rules
 same_length : tie.Need-same-length
 same_length c = search rules
 
-same-length-2 : tie.Need-same-length-2
-same-length-2 c = search rules
-
 returns : tie.Need-returns
 unfolding pointed
-returns c =
-    let second = c.before.before.before.before.before.before in
-    let first = second.before.before.before.before.before.before.before.before in
-    read_then first.read.ensures
-    (read_at_lem second.before.before.before.second_at.ensures second.read2.ensures (ends_at (rw c.wrapping-add-u16.ensures)))
+returns c = search (accesses, same)
 
 pub pointer_spec : {M : Type 1} → statement M
 pointer_spec =
@@ -57,5 +51,4 @@ pointer_spec =
     add-word
     wrapping-add-u16-requires
     same_length
-    same-length-2
     returns)

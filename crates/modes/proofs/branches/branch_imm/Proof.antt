@@ -16,13 +16,9 @@ branch-target-requires c κs = search rules
 same_length : tie.Need-same-length
 same_length c = search rules
 
-same-length-2 : tie.Need-same-length-2
-same-length-2 c = search rules
-
 returns : tie.Need-returns
 unfolding branched
 returns c = search (accesses, same)
 
 pub branch_imm_spec : {M : Type 1} → statement M
-branch_imm_spec =
-    tie.close (tie.spec fetch-u8-requires branch-target-requires same_length same-length-2 returns)
+branch_imm_spec = tie.close (tie.spec fetch-u8-requires branch-target-requires same_length returns)

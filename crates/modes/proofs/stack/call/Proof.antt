@@ -15,13 +15,9 @@ same_length c = search rules
 same-length-2 : tie.Need-same-length-2
 same-length-2 c = search rules
 
-same-length-3 : tie.Need-same-length-3
-same-length-3 c = search rules
-
 returns : tie.Need-returns
 unfolding called
 returns c = search accesses
 
 pub call_spec : {M : Type 1} → statement M
-call_spec =
-    tie.close (tie.spec push-to-stack-u16-requires same_length same-length-2 same-length-3 returns)
+call_spec = tie.close (tie.spec push-to-stack-u16-requires same_length same-length-2 returns)

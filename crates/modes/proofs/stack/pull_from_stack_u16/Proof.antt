@@ -27,9 +27,6 @@ add_at c = search rules
 same_length : tie.Need-same-length
 same_length c = search rules
 
-same-length-2 : tie.Need-same-length-2
-same-length-2 c = search rules
-
 returns : tie.Need-returns
 unfolding pull_word
 returns c = search accesses
@@ -45,5 +42,4 @@ pull_from_stack_u16_spec =
     cast-at-2
     add_at
     same_length
-    same-length-2
     returns)

@@ -25,9 +25,6 @@ read-requires c κs = search rules
 same_length : tie.Need-same-length
 same_length c = search rules
 
-same-length-2 : tie.Need-same-length-2
-same-length-2 c = search rules
-
 returns : tie.Need-returns
 unfolding pull
 returns c = search (accesses, same, in_stack)
@@ -35,11 +32,4 @@ returns c = search (accesses, same, in_stack)
 pub pull_from_stack_u8_spec : {M : Type 1} → statement M
 pull_from_stack_u8_spec =
     tie.close
-    (tie.spec
-    wrapping-add-u8-requires
-    cast-read
-    add_read
-    read-requires
-    same_length
-    same-length-2
-    returns)
+    (tie.spec wrapping-add-u8-requires cast-read add_read read-requires same_length returns)

@@ -24,9 +24,6 @@ same_length c = search rules
 same-length-2 : tie.Need-same-length-2
 same-length-2 c = search rules
 
-same-length-3 : tie.Need-same-length-3
-same-length-3 c = search rules
-
 returns : tie.Need-returns
 unfolding push_word
 returns c = search accesses
@@ -41,5 +38,4 @@ push_to_stack_u16_spec =
     push-to-stack-u8-requires-2
     same_length
     same-length-2
-    same-length-3
     returns)

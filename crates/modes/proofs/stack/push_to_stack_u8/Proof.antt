@@ -25,9 +25,6 @@ same_length c = search rules
 same-length-2 : tie.Need-same-length-2
 same-length-2 c = search rules
 
-same-length-3 : tie.Need-same-length-3
-same-length-3 c = search rules
-
 returns : tie.Need-returns
 unfolding push
 returns c = search (accesses, same)
@@ -42,5 +39,4 @@ push_to_stack_u8_spec =
     difference-requires
     same_length
     same-length-2
-    same-length-3
     returns)
