@@ -1,4 +1,6 @@
 // A part of a run, and the image blanked by what has been read so far: all of it in one packet of bytes, answered in its place.
+#![tactic(auto)]
+
 mod keep;
 mod lay;
 mod part;

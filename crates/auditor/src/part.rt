@@ -9,7 +9,7 @@ pub fn fill(bytes: &mut [u8], packet: &[u8], at: usize)
     ensures { bytes.new ≡ bytes_at at (length bytes.old) packet.now }
 {
     let end = at + bytes.len();
-    bytes::copy(&packet[at..end], bytes);
+    bytes.copy_from_slice(&packet[at..end]);
 }
 
 // Lays bytes at a place.
@@ -18,5 +18,5 @@ pub fn lay(packet: &mut [u8], at: usize, bytes: &[u8])
     ensures { packet.new ≡ sets packet.old at bytes.now }
 {
     let end = at + bytes.len();
-    bytes::copy(bytes, &mut packet[at..end]);
+    packet[at..end].copy_from_slice(bytes);
 }

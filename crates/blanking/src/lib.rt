@@ -1,4 +1,6 @@
 // Blanked images: a chosen byte at every address that a map does not mark.
+#![tactic(auto)]
+
 ghost use Rattle.std.specs.Prelude.{◌≡◌, length};
 ghost use Rattle.laws.specs.Filled.{Fills};
 ghost use Rattle.blanking.specs.Calls.{refused, blank_of};

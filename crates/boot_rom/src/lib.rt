@@ -1,4 +1,6 @@
 // A step while the boot ROM is on, and whether it reads where the ROM is: at FFC0 to FFFF.
+#![tactic(auto)]
+
 ghost use Rattle.std.specs.Prelude.{◌≡◌, true, ◌++◌, length, replicate, take, drop};
 ghost use Rattle.blanking.specs.Together.{together};
 ghost use Rattle.memory.specs.Contracts.{Ready, Yields};

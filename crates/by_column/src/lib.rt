@@ -1,6 +1,8 @@
 // The maker's table by its 32 columns, on flat registers and cells: a column is the opcode's low five bits, a row its top three. What the
 // rows of a column read alike stands once, and then a match on the row, or a family's function, tells them apart. PC stands behind the
 // opcode.
+#![tactic(auto)]
+
 mod accumulator;
 mod bits;
 mod families;

@@ -1,6 +1,8 @@
 // One row of cells in place of memory and both maps: a number of 16 bits for each address. Its low byte is the memory's, bit 8 is set
 // where the read map marks the address, bit 9 where the written map does. So a read is one load and one test, a store one load and one
 // store.
+#![tactic(auto)]
+
 mod rows;
 
 ghost use Rattle.memory.specs.Access.{ask, put};

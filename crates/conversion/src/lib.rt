@@ -1,4 +1,6 @@
 // From a state record, the register record's seven bytes and the memory, to an SPC file and back.
+#![tactic(auto)]
+
 mod unnamed;
 
 ghost use Rattle.laws.specs.Filled.{Fills};
@@ -16,7 +18,7 @@ pub fn file_from_record(file: &mut [u8], record: &[u8]) -> u8
         return 7;
     }
     let signature = spc_file::SIGNATURE;
-    bytes::copy(&signature, &mut file[..33]);
+    file[..33].copy_from_slice(&signature);
     unnamed::set_defaults(file);
     let cpu = state::registers(&record[..7]);
     spc_file::write(file, cpu, &record[7..])
@@ -40,6 +42,6 @@ pub fn record_from_file(record: &mut [u8], file: &[u8]) -> u8
     }
     let cpu = read.cpu;
     state::set_registers(&mut record[..7], cpu);
-    bytes::copy(spc_file::memory(file), &mut record[7..]);
+    record[7..].copy_from_slice(spc_file::memory(file));
     0
 }

@@ -1,4 +1,6 @@
 // What a step costs: clock cycles, of which the processor has 1,024,000 a second.
+#![tactic(auto)]
+
 ghost use Rattle.std.specs.Prelude.{◌≡◌, ◌≤◌, length, slice_index};
 ghost use Rattle.cycles.specs.Rows.{row_of};
 ghost use Rattle.cycles.specs.Cost.{cycles, flag_of, branch_byte, is_passed_by, cost_of};

@@ -1,4 +1,6 @@
 // What answers at the device addresses 00F0 to 00FF: three timers, four ports and the clock that drives them, held by value.
+#![tactic(auto)]
+
 mod timer;
 
 ghost use Rattle.std.specs.Prelude.{◌≡◌, ◌+◌, ◌≤◌, length};
@@ -7,7 +9,7 @@ ghost use Rattle.devices.specs.Devices.{timer_in, started, after_reads, controll
 pub use timer::Timer;
 
 // The order of the fields is the cheapest that was found for the step of a song (docs/SPEED.md).
-#[derive(Drop)]
+#[derive(Clone, Copy)]
 pub struct Devices {
     // clock cycles since the playing began
     pub cycles: u32,

@@ -2,7 +2,7 @@
 ghost use Rattle.std.specs.Prelude.{◌≡◌};
 ghost use Rattle.devices.specs.Timers.{ticked, switched, cleared, aimed};
 
-#[derive(Drop)]
+#[derive(Clone, Copy)]
 pub struct Timer {
     pub on: bool,
     pub target: u8,

@@ -1,4 +1,6 @@
 // What differs between two images of memory, and whether it touches what a read map marks.
+#![tactic(auto)]
+
 ghost use Rattle.std.specs.Prelude.{◌≡◌, ◌≤◌};
 ghost use Rattle.laws.specs.Filled.{Fills};
 ghost use Rattle.differences.specs.Calls.{stretches_of, marks_of, refused, accepted, lengths_refusal, written, differences_of};
@@ -13,7 +15,7 @@ pub struct Differences {
 }
 
 // A stretch as the walk finds it: its first address, and the one behind its last. Both are 65,536 where no stretch is left.
-#[derive(Drop)]
+#[derive(Clone, Copy)]
 struct Span {
     first: usize,
     end: usize,

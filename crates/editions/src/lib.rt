@@ -1,8 +1,10 @@
 // The editions of the pointer rule: what a pointer of [d+X] and [d]+Y does at the end of a page.
+#![tactic(auto)]
+
 ghost use Rattle.std.specs.Prelude.{◌≡◌};
 ghost use Rattle.editions.specs.Editions.{is_edition, edition_of, second_at};
 
-#[derive(Drop)]
+#[derive(Clone, Copy)]
 pub enum Edition {
     // the Rust crate's
     First,

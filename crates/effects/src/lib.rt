@@ -1,4 +1,6 @@
 // What an instruction makes of its operands, by its opcode.
+#![tactic(auto)]
+
 mod bits;
 mod bits_and_words;
 mod compares_and_pops;

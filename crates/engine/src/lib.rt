@@ -1,4 +1,6 @@
 // The engine: a step and a run of the processor on lent memory and maps.
+#![tactic(auto)]
+
 mod phases;
 
 ghost use Rattle.std.specs.Prelude.{◌≡◌};

@@ -1,4 +1,6 @@
 // All that an instruction reads before it stores.
+#![tactic(auto)]
+
 mod bytes;
 mod columns;
 mod places;

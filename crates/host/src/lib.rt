@@ -1,5 +1,7 @@
 // A song played without sound: the processor's steps, with its devices answered. What answers at 00F0 to 00FF is laid out in memory before
 // each step; behind it the marks of these addresses tell what the step has read and stored there.
+#![tactic(auto)]
+
 mod beside;
 mod chip;
 
@@ -16,7 +18,7 @@ use devices::Devices;
 use processor::Processor;
 
 // The registers, and the devices.
-#[derive(Drop)]
+#[derive(Clone, Copy)]
 pub struct Player {
     pub cpu: Processor,
     pub devices: Devices,

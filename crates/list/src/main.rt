@@ -1,13 +1,15 @@
 // The listing program: a start address, low byte first, and code bytes from standard input; their listing to standard output.
-use libc::{STDIN_FILENO, STDOUT_FILENO};
+#![tactic(auto)]
 
-fn main() {
+use std::io::{self, Write};
+
+fn main(rt: HostRuntime) -> io::Result<()> {
     // one byte more than the longest input, so that a longer one is seen
     let mut input = [0u8; 4099];
-    let n = io::read_full(STDIN_FILENO, &mut input);
+    let n = output::read_full(&mut rt.stdin(), &mut input)?;
     // 4,096 instructions of one byte, 18 bytes a line at most
     let mut out = [0u8; 73728];
     let written = listing::session(&input[..n], &mut out);
     let length = written.length;
-    io::write_all(STDOUT_FILENO, &out[..length]);
+    rt.stdout().write_all(&out[..length])
 }

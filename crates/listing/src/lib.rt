@@ -1,4 +1,6 @@
 // Listings: the text of one instruction, and of all the code bytes of an input.
+#![tactic(auto)]
+
 mod program;
 
 ghost use Rattle.std.specs.Prelude.{◌≡◌, ◌+◌, ◌≤◌, length};

@@ -1,4 +1,6 @@
 // Long runs: the steps of a run on flat registers and one row of cells.
+#![tactic(auto)]
+
 ghost use Rattle.memory.specs.Contracts.{Ready, Yields};
 ghost use Rattle.instructions.specs.Step.{step_of};
 ghost use Rattle.instructions.specs.Runs.{run_of};

@@ -1,4 +1,6 @@
 // Reads and stores of the lent memory, and the marks that they leave in the two maps.
+#![tactic(auto)]
+
 ghost use Rattle.memory.specs.Access.{ask, put};
 ghost use Rattle.memory.specs.Contracts.{Ready, Performs};
 ghost use Rattle.memory.specs.Words.{read_word, write_word};

@@ -1,4 +1,6 @@
 // What each opcode is called and which operands it has, and the text of a list of operands.
+#![tactic(auto)]
+
 mod format;
 mod grid;
 
@@ -9,7 +11,7 @@ ghost use Rattle.opcode_data.specs.Data.{data_of};
 pub use format::format_address_modes;
 
 // Where an operand is found.
-#[derive(Drop)]
+#[derive(Clone, Copy)]
 pub enum AddressMode {
     A,
     X,
@@ -39,7 +41,7 @@ pub enum AddressMode {
 }
 
 // Up to three operands: the first so many of the three modes count.
-#[derive(Drop)]
+#[derive(Clone, Copy)]
 pub struct Modes {
     pub first: AddressMode,
     pub second: AddressMode,
@@ -47,7 +49,7 @@ pub struct Modes {
     pub count: u8,
 }
 
-#[derive(Drop)]
+#[derive(Clone, Copy)]
 pub struct OpcodeData {
     // five bytes, with blanks behind a shorter name
     pub name: [u8; 5],

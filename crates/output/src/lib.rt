@@ -1,13 +1,30 @@
-// Lines of text to standard output, for the programs that print by lines.
-ghost use Rattle.std.specs.Prelude.{◌≡◌, take};
+// What the programs read from standard input and write to standard output: bytes, and lines of text.
+#![tactic(auto)]
 
-use libc::STDOUT_FILENO;
+ghost use Rattle.std.specs.Prelude.{◌≡◌, ◌≤◌, length, take, IfOk};
+
+use std::io::{self, Read, Write};
 use text::Line;
 
+// Fills a buffer from a reader, and tells how many bytes there were: fewer than it holds only where the input has ended.
+pub fn read_full<R: Read>(from: &mut R, buffer: &mut [u8]) -> io::Result<usize>
+    ensures { IfOk result (λ n. n ≤ length buffer.old) }
+{
+    let mut n = 0;
+    while n < buffer.len() {
+        let got = from.read(&mut buffer[n..])?;
+        if got == 0 {
+            return Ok(n);
+        }
+        n += got;
+    }
+    Ok(n)
+}
+
 // Writes out what stands on a line.
-pub fn print(line: Line) {
+pub fn print<W: Write>(to: &mut W, line: Line) -> io::Result<()> {
     let bytes = line.bytes;
-    io::write_all(STDOUT_FILENO, first(&bytes, line.length));
+    to.write_all(first(&bytes, line.length))
 }
 
 // The first n bytes, or all where there are fewer.

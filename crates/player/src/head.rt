@@ -121,7 +121,7 @@ fn set_devices(bytes: &mut [u8], devices: Devices)
         devices.port2,
         devices.port3,
     ];
-    bytes::copy(&laid, bytes);
+    bytes.copy_from_slice(&laid);
 }
 
 // Lays the player and its steps into a head: who sends it back asks for what comes then.

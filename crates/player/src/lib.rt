@@ -1,6 +1,8 @@
 // Parts of playings. What is asked and what is answered stand in the same slices, a packet: a head of 64 bytes, the sound chip's row of
 // 512, the memory, and four maps, of what was read, of what was stored to, of what the sound chip may fetch, and of what the playing is
 // made of.
+#![tactic(auto)]
+
 mod head;
 
 ghost use Rattle.std.specs.Prelude.{◌≡◌, cond, eqb, length};
@@ -95,7 +97,7 @@ fn finish(reads: &mut [u8], writes: &mut [u8], fetched: &[u8], made: &mut [u8])
 {
     watch::put_marks(reads, 0);
     watch::put_marks(writes, 0);
-    bytes::copy(fetched, made);
+    made.copy_from_slice(fetched);
     blanking::join(reads, made);
     watch::put_marks(made, 65535);
 }

@@ -1,5 +1,7 @@
 // The registers as a long run carries them: flat, so that the step loop holds each in a register of the machine. A flag stays in the byte
 // that set it.
+#![tactic(auto)]
+
 mod decimal;
 mod fields;
 mod products;
@@ -16,7 +18,7 @@ use psw::ProgramStatusWord;
 
 // N is bit 7 of n, Z holds where z is 0, V is bit 7 of v, H is bit 4 of h, C is bit 0 of c, P is bit 8 of page, B and I are bits 4 and 2
 // of rest; stop is the number of the record's state. The order of the fields is a matter of what a step costs (docs/SPEED.md).
-#[derive(Drop)]
+#[derive(Clone, Copy)]
 pub struct Registers {
     pub x: u8,
     pub y: u8,

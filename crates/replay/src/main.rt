@@ -1,25 +1,30 @@
 // Answers the oracle's cases: 16 bytes each from standard input, a line for each to standard output. oracle/README.md says what
 // the bytes of a case mean. What it prints for the sample beside it is held to the Rust crate's own answers.
+#![tactic(auto)]
+
 mod methods;
 mod modes;
 
-use libc::STDIN_FILENO;
 use processor::Processor;
 use psw::ProgramStatusWord;
+use std::io;
 use text::Line;
 use waking::State;
 
-fn main() {
+fn main(rt: HostRuntime) -> io::Result<()> {
+    let mut from = rt.stdin();
+    let mut to = rt.stdout();
     let mut case = [0u8; 16];
     let mut left: u32 = 0xFFFF_FFFF;
     while left > 0 {
-        let got = io::read_full(STDIN_FILENO, &mut case);
+        let got = output::read_full(&mut from, &mut case)?;
         if got < 16 {
-            return;
+            return Ok(());
         }
-        output::print(answer(case).push(b'\n'));
+        output::print(&mut to, answer(case).push(b'\n'))?;
         left -= 1;
     }
+    Ok(())
 }
 
 fn answer(case: [u8; 16]) -> Line {

@@ -1,39 +1,61 @@
 // Answers the oracle's cases of steps: 64 bytes each from standard input, a line for each to standard output. oracle/README.md says
 // what the bytes of a case and the columns of an answer mean. What it prints for the sample beside it is held to the Rust crate's own
 // answers and to the definition's list of accesses.
+#![tactic(auto)]
+
 mod asked;
 mod case;
 mod report;
 
-use libc::STDIN_FILENO;
+use std::io::{self, Read, Write};
 
 // Lends memory and maps to the session.
-fn main() {
+fn main(rt: HostRuntime) -> io::Result<()> {
     let mut memory = [0u8; 65536];
     let mut reads = [0u8; 8192];
     let mut writes = [0u8; 8192];
-    session(&mut memory, &mut reads, &mut writes);
+    session(
+        &mut rt.stdin(),
+        &mut rt.stdout(),
+        &mut memory,
+        &mut reads,
+        &mut writes,
+    )
 }
 
 // Answers cases until the input ends. Before each case, and again after it, memory holds the background and both maps are clear.
-fn session(memory: &mut [u8], reads: &mut [u8], writes: &mut [u8]) {
+fn session<R: Read, W: Write>(
+    from: &mut R,
+    to: &mut W,
+    memory: &mut [u8],
+    reads: &mut [u8],
+    writes: &mut [u8],
+) -> io::Result<()> {
     let mut given = [0u8; 64];
     case::fill(memory);
     let mut left: u32 = 0xFFFF_FFFF;
     while left > 0 {
-        let got = io::read_full(STDIN_FILENO, &mut given);
+        let got = output::read_full(from, &mut given)?;
         if got < 64 {
-            return;
+            return Ok(());
         }
-        one(memory, reads, writes, &given);
+        one(to, memory, reads, writes, &given)?;
         left -= 1;
     }
+    Ok(())
 }
 
 // One case: its bytes are put into memory, what it asks is done, and the answer is printed.
-fn one(memory: &mut [u8], reads: &mut [u8], writes: &mut [u8], given: &[u8]) {
+fn one<W: Write>(
+    to: &mut W,
+    memory: &mut [u8],
+    reads: &mut [u8],
+    writes: &mut [u8],
+    given: &[u8],
+) -> io::Result<()> {
     case::poke(memory, given);
     let answer = asked::ask(memory, reads, writes, given);
-    output::print(report::line(answer, memory, reads, writes));
+    let printed = output::print(to, report::line(answer, memory, reads, writes));
     case::unpoke(memory, given);
+    printed
 }

@@ -1,4 +1,6 @@
 // The runner: a run on a state record, and the report of it.
+#![tactic(auto)]
+
 mod lines;
 
 ghost use Rattle.std.specs.Prelude.{◌≡◌, true, [], length, get_or, take};

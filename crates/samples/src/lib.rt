@@ -1,4 +1,6 @@
 // What the sound chip may fetch of an image: directory entries, and the blocks of samples.
+#![tactic(auto)]
+
 ghost use Rattle.std.specs.Prelude.{◌≡◌, ◌+◌, ◌*◌, ◌≤◌, length};
 ghost use Rattle.samples.specs.Fetched.{Fetching, word_at, fetched, blocks, sample, voices};
 

@@ -1,4 +1,6 @@
 // SPC files: reading the record and the memory out of one, and writing them into one.
+#![tactic(auto)]
+
 ghost use Rattle.std.specs.Prelude.{◌≡◌, length};
 ghost use Rattle.std.proofs.lemmas.List.Edits.{sets};
 ghost use Rattle.laws.specs.Filled.{Fills};
@@ -27,7 +29,7 @@ fn refusal_of(file: &[u8]) -> u8
         return 7;
     }
     let signature = SIGNATURE;
-    if check::same(&file[..33], &signature) {
+    if file[..33] == signature {
         return 0;
     }
     8
@@ -125,6 +127,6 @@ pub fn write(file: &mut [u8], cpu: Processor, memory: &[u8]) -> u8
         return refusal;
     }
     lay_record(file, cpu);
-    bytes::copy(memory, &mut file[256..65792]);
+    file[256..65792].copy_from_slice(memory);
     0
 }

@@ -1,5 +1,7 @@
 // The register record as bytes: as seven, A X Y SP PC-low PC-high PSW, which hold no state, and as eight, with the number of the state
 // last. And a number as four bytes, as the programs take a budget.
+#![tactic(auto)]
+
 ghost use Rattle.std.specs.Prelude.{◌+◌, ◌*◌, ◌≡◌, length};
 ghost use Rattle.state.specs.Registers.{registers_of, bytes_of, is_whole, whole_of, whole_bytes_of, four_bytes};
 

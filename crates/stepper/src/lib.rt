@@ -1,4 +1,6 @@
 // One step from a state record, and how the record that it leaves compares with a second one.
+#![tactic(auto)]
+
 ghost use Rattle.std.specs.Prelude.{◌≤◌, true, ◌≡◌, length, get_or};
 ghost use Rattle.text.specs.Line.{blank, adds};
 ghost use Rattle.editions.specs.Editions.{is_edition, edition_of};

@@ -1,4 +1,6 @@
 // Where the marks of a map stand, and where two memories differ: the stretches of addresses, as bytes.
+#![tactic(auto)]
+
 ghost use Rattle.std.specs.Prelude.{◌≤◌, cond, ◌≡◌, ◌∷◌, length, take, drop};
 ghost use Rattle.text.specs.Given.{Gives, says};
 ghost use Rattle.differences.specs.Calls.{marks_of};

@@ -1,8 +1,10 @@
 // Whether a record is awake. SLEEP and STOP end that, and a wake brings it back.
+#![tactic(auto)]
+
 ghost use Rattle.std.specs.Prelude.{◌≡◌};
 ghost use Rattle.waking.specs.States.{number_of, is_state, state_of, is_awake};
 
-#[derive(Drop)]
+#[derive(Clone, Copy)]
 pub enum State {
     Awake,
     // by SLEEP

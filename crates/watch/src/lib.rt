@@ -1,5 +1,7 @@
 // A run that is watched: it also tells which device addresses, 00F0 to 00FF, its steps read. The read map does not tell that, since it
 // marks no read behind a store, and a device's answer is not what was stored there last.
+#![tactic(auto)]
+
 ghost use Rattle.std.specs.Prelude.{◌≡◌, true, length};
 ghost use Rattle.waking.specs.States.{number_of};
 ghost use Rattle.memory.specs.Contracts.{Ready, Yields};
