@@ -2,7 +2,6 @@
 use Rattle.std.specs.Prelude.{ℕ, ◌/◌, ◌%◌, ◌≡◌, List, [], ◌∷◌, ◌++◌, length}
 use Rattle.std.specs.Int.Bits.{bit_or}
 use Rattle.std.proofs.lemmas.List.Edits.{sets}
-use Rattle.laws.specs.Lent.{Slice}
 use Rattle.marks.specs.Counts.{counts_of}
 use Rattle.marks.specs.declared.Counted.{Counted}
 use Rattle.memory.specs.World.{World, world}
@@ -26,11 +25,11 @@ abbrev pub asked_of : List ℕ → World → Outcome World Watched
 asked_of packet = watched_run (edition_in packet) (budget_in packet) (whole_of (registers_in packet))
 
 -- a packet, and room for an image and a map of what is to stay in it
-pub record Room (packet reads image kept : Slice) : Type 0 where
-  pub of_packet : length packet.now ≡ 155712
-  pub of_reads : length reads.now ≡ 8192
-  pub of_image : length image.now ≡ 65536
-  pub of_kept : length kept.now ≡ 8192
+pub record Room (packet reads image kept : List ℕ) : Type 0 where
+  pub of_packet : length packet ≡ 155712
+  pub of_reads : length reads ≡ 8192
+  pub of_image : length image ≡ 65536
+  pub of_kept : length kept ≡ 8192
 
 -- What stays is what a map marks or the packet's own; the image is blanked by it, and so many addresses were given the byte.
 pub record Keeping (packet reads image kept : List ℕ) (blanked : ℕ) : Type 0 where
@@ -39,14 +38,14 @@ pub record Keeping (packet reads image kept : List ℕ) (blanked : ℕ) : Type 0
   pub count : blanked ≡ unmarked (together reads (kept_in packet))
 
 -- what stands behind the head: memory and image, and three maps
-pub record Images (memory image : Slice) : Type 0 where
-  pub of_memory : length memory.now ≡ 65536
-  pub of_image : length image.now ≡ 65536
+pub record Images (memory image : List ℕ) : Type 0 where
+  pub of_memory : length memory ≡ 65536
+  pub of_image : length image ≡ 65536
 
-pub record Maps (reads writes kept : Slice) : Type 0 where
-  pub of_reads : length reads.now ≡ 8192
-  pub of_writes : length writes.now ≡ 8192
-  pub of_kept : length kept.now ≡ 8192
+pub record Maps (reads writes kept : List ℕ) : Type 0 where
+  pub of_reads : length reads ≡ 8192
+  pub of_writes : length writes ≡ 8192
+  pub of_kept : length kept ≡ 8192
 
 -- the bytes of an answer's head from the registers on, up to those that have no meaning yet
 unfoldable pub told : Ran → Counted → ℕ → ℕ → List ℕ

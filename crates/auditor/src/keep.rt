@@ -5,7 +5,7 @@ use crate::part;
 
 // The kept map with the read map's marks, and the packet's image blanked by both; how many addresses were given the byte.
 pub fn keep(packet: &[u8], reads: &[u8], image: &mut [u8], kept: &mut [u8]) -> u32
-    requires { Room packet reads image kept }
+    requires { Room packet.now reads.now image.old kept.old }
     ensures { Keeping packet.now reads.now image.new kept.new result }
 {
     let byte = packet[5];

@@ -64,7 +64,7 @@ fn head(packet: &mut [u8], ran: Ran, counted: Counted, blanked: u32, devices: u1
 // The three maps.
 fn maps(packet: &mut [u8], reads: &[u8], writes: &[u8], kept: &[u8])
     requires packet_len { length packet.old ≡ 155712 }
-    requires maps { Maps reads writes kept }
+    requires maps { Maps reads.now writes.now kept.now }
     ensures { packet.new ≡ sets packet.old 131136
         (reads.now ++ writes.now ++ kept.now) }
 {
@@ -76,8 +76,8 @@ fn maps(packet: &mut [u8], reads: &[u8], writes: &[u8], kept: &[u8])
 // All that stands behind the head.
 fn parts(packet: &mut [u8], memory: &[u8], image: &[u8], reads: &[u8], writes: &[u8], kept: &[u8])
     requires packet_len { length packet.old ≡ 155712 }
-    requires images { Images memory image }
-    requires maps { Maps reads writes kept }
+    requires images { Images memory.now image.now }
+    requires maps { Maps reads.now writes.now kept.now }
     ensures { packet.new ≡ sets packet.old 64
         (memory.now ++ image.now ++ (reads.now ++ writes.now ++ kept.now)) }
 {
@@ -98,8 +98,8 @@ pub fn all(
     kept: &[u8],
 )
     requires packet_len { length packet.old ≡ 155712 }
-    requires images { Images memory image }
-    requires maps { Maps reads writes kept }
+    requires images { Images memory.now image.now }
+    requires maps { Maps reads.now writes.now kept.now }
     ensures { packet.new ≡ laid_out packet.old watched blanked
         memory.now image.now reads.now writes.now kept.now }
 {

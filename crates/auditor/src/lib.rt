@@ -6,6 +6,7 @@ mod lay;
 mod part;
 
 ghost use Rattle.std.specs.Prelude.{◌≡◌, length};
+ghost use Rattle.laws.specs.Lent.{lent};
 ghost use Rattle.laws.specs.Filled.{Fills};
 ghost use Rattle.memory.specs.Contracts.{after, Ready, Yields};
 ghost use Rattle.auditor.specs.Packet.{budget_in};
@@ -41,8 +42,8 @@ fn budget(packet: &[u8]) -> u32
 // Fills memory and maps from a packet.
 fn begin(packet: &[u8], memory: &mut [u8], reads: &mut [u8], writes: &mut [u8])
     requires packet_len { length packet.now ≡ 155712 }
-    requires ready { Ready memory reads writes }
-    ensures { after memory reads writes ≡ world_in packet.now }
+    requires ready { Ready memory.old reads.old writes.old }
+    ensures { after (lent memory) (lent reads) (lent writes) ≡ world_in packet.now }
 {
     part::fill(memory, packet, 64);
     part::fill(reads, packet, 131136);
@@ -52,7 +53,7 @@ fn begin(packet: &[u8], memory: &mut [u8], reads: &mut [u8], writes: &mut [u8])
 // Makes the run that a packet asks for, on memory and maps.
 fn run_with(packet: &[u8], memory: &mut [u8], reads: &mut [u8], writes: &mut [u8]) -> Watched
     requires { length packet.now ≡ 155712 }
-    ensures { Yields (asked_of packet.now) memory reads writes result }
+    ensures { Yields (asked_of packet.now) (lent memory) (lent reads) (lent writes) result }
 {
     let edition = packet[0];
     let budget = budget(packet);
@@ -63,8 +64,8 @@ fn run_with(packet: &[u8], memory: &mut [u8], reads: &mut [u8], writes: &mut [u8
 // Makes it on the packet's own memory and maps.
 fn run_on(packet: &[u8], memory: &mut [u8], reads: &mut [u8], writes: &mut [u8]) -> Watched
     requires packet_len { length packet.now ≡ 155712 }
-    requires ready { Ready memory reads writes }
-    ensures { Yields (λ w. run_on packet.now) memory reads writes result }
+    requires ready { Ready memory.old reads.old writes.old }
+    ensures { Yields (λ w. run_on packet.now) (lent memory) (lent reads) (lent writes) result }
 {
     begin(packet, memory, reads, writes);
     run_with(packet, memory, reads, writes)
@@ -90,7 +91,7 @@ fn answer(packet: &mut [u8])
 // Answers a packet in its own bytes, and gives the refusal; refused, the packet stays as it was. Refusals: 6 a packet of a wrong length or
 // with registers whose last byte is above 2, 9 an edition that is neither 1 nor 2.
 pub fn session(packet: &mut [u8]) -> u8
-    ensures { Fills audit_of packet result }
+    ensures { Fills audit_of (lent packet) result }
 {
     let refusal = refusal_of(packet);
     if refusal != 0 {

@@ -2,6 +2,7 @@
 #![tactic(auto)]
 
 ghost use Rattle.std.specs.Prelude.{◌≡◌, length};
+ghost use Rattle.laws.specs.Lent.{lent};
 ghost use Rattle.laws.specs.Filled.{Fills};
 ghost use Rattle.blanking.specs.Calls.{refused, blank_of};
 ghost use Rattle.blanking.specs.Together.{together};
@@ -26,7 +27,7 @@ fn refused(refusal: u8) -> Blanked
 // Puts the byte at every address that the map does not mark, and counts these addresses, also where the byte stood there before. What is
 // marked stays. Refusals: 1 memory that is not 65,536 bytes, 2 a map that is not 8,192 bytes.
 pub fn blank(memory: &mut [u8], map: &[u8], byte: u8) -> Blanked
-    ensures { Fills (blank_of map.now byte) memory result }
+    ensures { Fills (blank_of map.now byte) (lent memory) result }
 {
     if memory.len() != 65536 {
         return refused(1);

@@ -2,6 +2,7 @@
 #![tactic(auto)]
 
 ghost use Rattle.std.specs.Prelude.{◌≡◌, true, ◌++◌, length, replicate, take, drop};
+ghost use Rattle.laws.specs.Lent.{lent};
 ghost use Rattle.blanking.specs.Together.{together};
 ghost use Rattle.memory.specs.Contracts.{Ready, Yields};
 ghost use Rattle.editions.specs.Editions.{is_edition};
@@ -76,8 +77,8 @@ pub fn step(
     reads: &mut [u8],
     writes: &mut [u8],
 ) -> Stepped
-    requires { Ready memory reads writes × (is_edition edition ≡ true) }
-    ensures { Yields (rom_step edition cpu) memory reads writes result }
+    requires { Ready memory.old reads.old writes.old × (is_edition edition ≡ true) }
+    ensures { Yields (rom_step edition cpu) (lent memory) (lent reads) (lent writes) result }
 {
     let read = set_aside(reads);
     let stored = set_aside(writes);

@@ -1,5 +1,6 @@
 // A with a byte in memory, in eight columns; with the operand byte in one more.
 ghost use Rattle.std.specs.Prelude.{◌<◌};
+ghost use Rattle.laws.specs.Lent.{lent};
 ghost use Rattle.cells.specs.Cells.{Laid};
 ghost use Rattle.by_column.specs.Columns.{Follows, Does-in};
 
@@ -9,9 +10,9 @@ use registers::Registers;
 
 // d
 pub fn column_04(cpu: Registers, cells: &mut [u16], row: u8) -> Registers
-    requires laid { Laid cells }
+    requires laid { Laid cells.old }
     requires row_bound { row < 8 }
-    ensures { Follows 0x04 row cpu cells result }
+    ensures { Follows 0x04 row cpu (lent cells) result }
 {
     let at = operands::d_off(cpu, cells, 0);
     let next = cpu.past();
@@ -25,9 +26,9 @@ pub fn column_04(cpu: Registers, cells: &mut [u16], row: u8) -> Registers
 
 // !a
 pub fn column_05(cpu: Registers, cells: &mut [u16], row: u8) -> Registers
-    requires laid { Laid cells }
+    requires laid { Laid cells.old }
     requires row_bound { row < 8 }
-    ensures { Follows 0x05 row cpu cells result }
+    ensures { Follows 0x05 row cpu (lent cells) result }
 {
     let at = operands::abs_off(cpu, cells, 0);
     let next = cpu.past().past();
@@ -41,9 +42,9 @@ pub fn column_05(cpu: Registers, cells: &mut [u16], row: u8) -> Registers
 
 // (X)
 pub fn column_06(cpu: Registers, cells: &mut [u16], row: u8) -> Registers
-    requires laid { Laid cells }
+    requires laid { Laid cells.old }
     requires row_bound { row < 8 }
-    ensures { Follows 0x06 row cpu cells result }
+    ensures { Follows 0x06 row cpu (lent cells) result }
 {
     let at = operands::direct(cpu, cpu.x, 0);
     if row == 6 {
@@ -56,9 +57,9 @@ pub fn column_06(cpu: Registers, cells: &mut [u16], row: u8) -> Registers
 
 // [d+X]
 pub fn column_07(cpu: Registers, edition: Edition, cells: &mut [u16], row: u8) -> Registers
-    requires laid { Laid cells }
+    requires laid { Laid cells.old }
     requires row_bound { row < 8 }
-    ensures { Does-in edition 0x07 row cpu cells result }
+    ensures { Does-in edition 0x07 row cpu (lent cells) result }
 {
     let at = operands::idx(cpu, edition, cells);
     let next = cpu.past();
@@ -72,9 +73,9 @@ pub fn column_07(cpu: Registers, edition: Edition, cells: &mut [u16], row: u8) -
 
 // d+X
 pub fn column_14(cpu: Registers, cells: &mut [u16], row: u8) -> Registers
-    requires laid { Laid cells }
+    requires laid { Laid cells.old }
     requires row_bound { row < 8 }
-    ensures { Follows 0x14 row cpu cells result }
+    ensures { Follows 0x14 row cpu (lent cells) result }
 {
     let at = operands::d_off(cpu, cells, cpu.x);
     let next = cpu.past();
@@ -88,9 +89,9 @@ pub fn column_14(cpu: Registers, cells: &mut [u16], row: u8) -> Registers
 
 // !a+X
 pub fn column_15(cpu: Registers, cells: &mut [u16], row: u8) -> Registers
-    requires laid { Laid cells }
+    requires laid { Laid cells.old }
     requires row_bound { row < 8 }
-    ensures { Follows 0x15 row cpu cells result }
+    ensures { Follows 0x15 row cpu (lent cells) result }
 {
     let at = operands::abs_off(cpu, cells, cpu.x);
     let next = cpu.past().past();
@@ -104,9 +105,9 @@ pub fn column_15(cpu: Registers, cells: &mut [u16], row: u8) -> Registers
 
 // !a+Y
 pub fn column_16(cpu: Registers, cells: &mut [u16], row: u8) -> Registers
-    requires laid { Laid cells }
+    requires laid { Laid cells.old }
     requires row_bound { row < 8 }
-    ensures { Follows 0x16 row cpu cells result }
+    ensures { Follows 0x16 row cpu (lent cells) result }
 {
     let at = operands::abs_off(cpu, cells, cpu.y);
     let next = cpu.past().past();
@@ -120,9 +121,9 @@ pub fn column_16(cpu: Registers, cells: &mut [u16], row: u8) -> Registers
 
 // [d]+Y
 pub fn column_17(cpu: Registers, edition: Edition, cells: &mut [u16], row: u8) -> Registers
-    requires laid { Laid cells }
+    requires laid { Laid cells.old }
     requires row_bound { row < 8 }
-    ensures { Does-in edition 0x17 row cpu cells result }
+    ensures { Does-in edition 0x17 row cpu (lent cells) result }
 {
     let at = operands::idy(cpu, edition, cells);
     let next = cpu.past();
@@ -136,9 +137,9 @@ pub fn column_17(cpu: Registers, edition: Edition, cells: &mut [u16], row: u8) -
 
 // #i; CMP X in the row that stores elsewhere.
 pub fn column_08(cpu: Registers, cells: &mut [u16], row: u8) -> Registers
-    requires laid { Laid cells }
+    requires laid { Laid cells.old }
     requires row_bound { row < 8 }
-    ensures { Follows 0x08 row cpu cells result }
+    ensures { Follows 0x08 row cpu (lent cells) result }
 {
     let v = operands::fetch(cpu, cells);
     let next = cpu.past();

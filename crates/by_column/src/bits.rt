@@ -1,5 +1,6 @@
 // Bits of memory: of the direct page, whose number is the row, and those that Mb names.
 ghost use Rattle.std.specs.Prelude.{◌≡◌, ◌^◌, ◌<◌, ◌≤◌};
+ghost use Rattle.laws.specs.Lent.{lent};
 ghost use Rattle.instructions.specs.Effects.{with_bit, has_bit};
 ghost use Rattle.cells.specs.Cells.{Laid};
 ghost use Rattle.by_column.specs.Columns.{Follows, carry_group, Leaves};
@@ -30,9 +31,9 @@ fn has_bit(byte: u8, bit: u8) -> bool
 
 // SET1
 pub fn column_02(cpu: Registers, cells: &mut [u16], row: u8) -> Registers
-    requires laid { Laid cells }
+    requires laid { Laid cells.old }
     requires row_bound { row < 8 }
-    ensures { Follows 0x02 row cpu cells result }
+    ensures { Follows 0x02 row cpu (lent cells) result }
 {
     let at = operands::d_off(cpu, cells, 0);
     let v = cells::read(cells, at);
@@ -42,9 +43,9 @@ pub fn column_02(cpu: Registers, cells: &mut [u16], row: u8) -> Registers
 
 // CLR1
 pub fn column_12(cpu: Registers, cells: &mut [u16], row: u8) -> Registers
-    requires laid { Laid cells }
+    requires laid { Laid cells.old }
     requires row_bound { row < 8 }
-    ensures { Follows 0x12 row cpu cells result }
+    ensures { Follows 0x12 row cpu (lent cells) result }
 {
     let at = operands::d_off(cpu, cells, 0);
     let v = cells::read(cells, at);
@@ -54,9 +55,9 @@ pub fn column_12(cpu: Registers, cells: &mut [u16], row: u8) -> Registers
 
 // BBS
 pub fn column_03(cpu: Registers, cells: &mut [u16], row: u8) -> Registers
-    requires laid { Laid cells }
+    requires laid { Laid cells.old }
     requires row_bound { row < 8 }
-    ensures { Follows 0x03 row cpu cells result }
+    ensures { Follows 0x03 row cpu (lent cells) result }
 {
     let at = operands::d_off(cpu, cells, 0);
     let v = cells::read(cells, at);
@@ -65,9 +66,9 @@ pub fn column_03(cpu: Registers, cells: &mut [u16], row: u8) -> Registers
 
 // BBC
 pub fn column_13(cpu: Registers, cells: &mut [u16], row: u8) -> Registers
-    requires laid { Laid cells }
+    requires laid { Laid cells.old }
     requires row_bound { row < 8 }
-    ensures { Follows 0x13 row cpu cells result }
+    ensures { Follows 0x13 row cpu (lent cells) result }
 {
     let at = operands::d_off(cpu, cells, 0);
     let v = cells::read(cells, at);
@@ -92,9 +93,9 @@ fn carry_with(cpu: Registers, row: u8, v: u8, bit: u8) -> Registers
 
 // Mb: C with a bit, C into a bit, and a bit inverted.
 pub fn column_0a(cpu: Registers, cells: &mut [u16], row: u8) -> Registers
-    requires laid { Laid cells }
+    requires laid { Laid cells.old }
     requires row_bound { row < 8 }
-    ensures { Follows 0x0A row cpu cells result }
+    ensures { Follows 0x0A row cpu (lent cells) result }
 {
     let word = operands::fetch_u16(cpu, cells);
     let at = word % 8192;

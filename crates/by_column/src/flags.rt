@@ -1,5 +1,6 @@
 // Flags, and the branches by them.
 ghost use Rattle.std.specs.Prelude.{◌≡◌, ◌<◌};
+ghost use Rattle.laws.specs.Lent.{lent};
 ghost use Rattle.registers.specs.Flat.{record_of};
 ghost use Rattle.cells.specs.Cells.{Laid};
 ghost use Rattle.by_column.specs.Columns.{Follows, Becomes, branch_flag};
@@ -42,9 +43,9 @@ fn branches(cpu: Registers, row: u8) -> bool
 
 // BPL, BMI, BVC, BVS, BCC, BCS, BNE, BEQ
 pub fn column_10(cpu: Registers, cells: &mut [u16], row: u8) -> Registers
-    requires laid { Laid cells }
+    requires laid { Laid cells.old }
     requires row_bound { row < 8 }
-    ensures { Follows 0x10 row cpu cells result }
+    ensures { Follows 0x10 row cpu (lent cells) result }
 {
     operands::branch(cpu, cells, branches(cpu, row))
 }

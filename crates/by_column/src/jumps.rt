@@ -1,5 +1,6 @@
 // Jumps, calls and returns; what else stands in their columns.
 ghost use Rattle.std.specs.Prelude.{◌<◌};
+ghost use Rattle.laws.specs.Lent.{lent};
 ghost use Rattle.modes.specs.Stack.{called};
 ghost use Rattle.registers.specs.Flat.{record_of};
 ghost use Rattle.cells.specs.Cells.{Laid, Performs};
@@ -9,17 +10,17 @@ use registers::Registers;
 
 // PC on the stack, and on to an address.
 fn call(cpu: Registers, cells: &mut [u16], to: u16) -> Registers
-    requires { Laid cells }
-    ensures { Performs (called to (record_of cpu)) cells (record_of result) }
+    requires { Laid cells.old }
+    ensures { Performs (called to (record_of cpu)) (lent cells) (record_of result) }
 {
     operands::push_word(cpu, cells, cpu.pc).jump(to)
 }
 
 // TCALL with an even number
 pub fn column_01(cpu: Registers, cells: &mut [u16], row: u8) -> Registers
-    requires laid { Laid cells }
+    requires laid { Laid cells.old }
     requires row_bound { row < 8 }
-    ensures { Follows 0x01 row cpu cells result }
+    ensures { Follows 0x01 row cpu (lent cells) result }
 {
     let to = operands::read_u16(cells, 0xFFDE - row as u16 * 4);
     call(cpu, cells, to)
@@ -27,9 +28,9 @@ pub fn column_01(cpu: Registers, cells: &mut [u16], row: u8) -> Registers
 
 // TCALL with an odd number
 pub fn column_11(cpu: Registers, cells: &mut [u16], row: u8) -> Registers
-    requires laid { Laid cells }
+    requires laid { Laid cells.old }
     requires row_bound { row < 8 }
-    ensures { Follows 0x11 row cpu cells result }
+    ensures { Follows 0x11 row cpu (lent cells) result }
 {
     let to = operands::read_u16(cells, 0xFFDC - row as u16 * 4);
     call(cpu, cells, to)
@@ -37,8 +38,8 @@ pub fn column_11(cpu: Registers, cells: &mut [u16], row: u8) -> Registers
 
 // BRK
 fn brk(cpu: Registers, cells: &mut [u16]) -> Registers
-    requires { Laid cells }
-    ensures { Follows 0x0F 0 cpu cells result }
+    requires { Laid cells.old }
+    ensures { Follows 0x0F 0 cpu (lent cells) result }
 {
     let to = operands::read_u16(cells, 0xFFDE);
     let next = cpu.with_rest(16);
@@ -48,8 +49,8 @@ fn brk(cpu: Registers, cells: &mut [u16]) -> Registers
 
 // PCALL
 fn pcall(cpu: Registers, cells: &mut [u16]) -> Registers
-    requires { Laid cells }
-    ensures { Follows 0x0F 2 cpu cells result }
+    requires { Laid cells.old }
+    ensures { Follows 0x0F 2 cpu (lent cells) result }
 {
     let byte = operands::fetch(cpu, cells);
     call(cpu.past(), cells, 0xFF00 + byte as u16)
@@ -57,8 +58,8 @@ fn pcall(cpu: Registers, cells: &mut [u16]) -> Registers
 
 // RET
 fn ret(cpu: Registers, cells: &mut [u16]) -> Registers
-    requires { Laid cells }
-    ensures { Follows 0x0F 3 cpu cells result }
+    requires { Laid cells.old }
+    ensures { Follows 0x0F 3 cpu (lent cells) result }
 {
     let low = operands::pull(cpu, cells);
     let next = operands::raised(cpu);
@@ -68,8 +69,8 @@ fn ret(cpu: Registers, cells: &mut [u16]) -> Registers
 
 // RETI
 fn reti(cpu: Registers, cells: &mut [u16]) -> Registers
-    requires { Laid cells }
-    ensures { Follows 0x1F 3 cpu cells result }
+    requires { Laid cells.old }
+    ensures { Follows 0x1F 3 cpu (lent cells) result }
 {
     let status = operands::pull(cpu, cells);
     let behind = operands::raised(cpu);
@@ -82,8 +83,8 @@ fn reti(cpu: Registers, cells: &mut [u16]) -> Registers
 
 // MOV d,#i
 fn immediate_to_direct(cpu: Registers, cells: &mut [u16]) -> Registers
-    requires { Laid cells }
-    ensures { Follows 0x0F 4 cpu cells result }
+    requires { Laid cells.old }
+    ensures { Follows 0x0F 4 cpu (lent cells) result }
 {
     let v = operands::fetch(cpu, cells);
     let next = cpu.past();
@@ -94,8 +95,8 @@ fn immediate_to_direct(cpu: Registers, cells: &mut [u16]) -> Registers
 
 // MOV (X)+,A
 fn store_and_raise(cpu: Registers, cells: &mut [u16]) -> Registers
-    requires { Laid cells }
-    ensures { Follows 0x0F 5 cpu cells result }
+    requires { Laid cells.old }
+    ensures { Follows 0x0F 5 cpu (lent cells) result }
 {
     let at = operands::direct(cpu, cpu.x, 0);
     cells::store(cells, at, cpu.a);
@@ -104,8 +105,8 @@ fn store_and_raise(cpu: Registers, cells: &mut [u16]) -> Registers
 
 // MOV A,(X)+
 fn load_and_raise(cpu: Registers, cells: &mut [u16]) -> Registers
-    requires { Laid cells }
-    ensures { Follows 0x1F 5 cpu cells result }
+    requires { Laid cells.old }
+    ensures { Follows 0x1F 5 cpu (lent cells) result }
 {
     let at = operands::direct(cpu, cpu.x, 0);
     let v = cells::read(cells, at);
@@ -114,9 +115,9 @@ fn load_and_raise(cpu: Registers, cells: &mut [u16]) -> Registers
 
 // BRK; BRA; PCALL; RET; MOV d,#i; MOV (X)+,A; MUL; SLEEP
 pub fn column_0f(cpu: Registers, cells: &mut [u16], row: u8) -> Registers
-    requires laid { Laid cells }
+    requires laid { Laid cells.old }
     requires row_bound { row < 8 }
-    ensures { Follows 0x0F row cpu cells result }
+    ensures { Follows 0x0F row cpu (lent cells) result }
 {
     match row {
         0 => brk(cpu, cells),
@@ -132,8 +133,8 @@ pub fn column_0f(cpu: Registers, cells: &mut [u16], row: u8) -> Registers
 
 // JMP [!a+X]
 fn jump_by(cpu: Registers, cells: &mut [u16]) -> Registers
-    requires { Laid cells }
-    ensures { Follows 0x1F 0 cpu cells result }
+    requires { Laid cells.old }
+    ensures { Follows 0x1F 0 cpu (lent cells) result }
 {
     let at = operands::abs_off(cpu, cells, cpu.x);
     let to = operands::read_u16(cells, at);
@@ -142,8 +143,8 @@ fn jump_by(cpu: Registers, cells: &mut [u16]) -> Registers
 
 // JMP !a
 fn jump_to(cpu: Registers, cells: &mut [u16]) -> Registers
-    requires { Laid cells }
-    ensures { Follows 0x1F 2 cpu cells result }
+    requires { Laid cells.old }
+    ensures { Follows 0x1F 2 cpu (lent cells) result }
 {
     let to = operands::abs_off(cpu, cells, 0);
     cpu.jump(to)
@@ -151,8 +152,8 @@ fn jump_to(cpu: Registers, cells: &mut [u16]) -> Registers
 
 // CALL !a
 fn call_to(cpu: Registers, cells: &mut [u16]) -> Registers
-    requires { Laid cells }
-    ensures { Follows 0x1F 1 cpu cells result }
+    requires { Laid cells.old }
+    ensures { Follows 0x1F 1 cpu (lent cells) result }
 {
     let to = operands::abs_off(cpu, cells, 0);
     call(cpu.past().past(), cells, to)
@@ -160,9 +161,9 @@ fn call_to(cpu: Registers, cells: &mut [u16]) -> Registers
 
 // JMP [!a+X]; CALL; JMP; RETI; XCN; MOV A,(X)+; DAA; STOP
 pub fn column_1f(cpu: Registers, cells: &mut [u16], row: u8) -> Registers
-    requires laid { Laid cells }
+    requires laid { Laid cells.old }
     requires row_bound { row < 8 }
-    ensures { Follows 0x1F row cpu cells result }
+    ensures { Follows 0x1F row cpu (lent cells) result }
 {
     match row {
         0 => jump_by(cpu, cells),

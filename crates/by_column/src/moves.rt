@@ -1,5 +1,6 @@
 // Pushes, operand bytes with X and Y, and what needs no memory: shifts of A, moves between registers.
 ghost use Rattle.std.specs.Prelude.{◌<◌};
+ghost use Rattle.laws.specs.Lent.{lent};
 ghost use Rattle.cells.specs.Cells.{Laid};
 ghost use Rattle.by_column.specs.Columns.{Follows, Becomes};
 
@@ -7,8 +8,8 @@ use registers::Registers;
 
 // MOV Y,#i
 fn immediate_y(cpu: Registers, cells: &mut [u16]) -> Registers
-    requires { Laid cells }
-    ensures { Follows 0x0D 4 cpu cells result }
+    requires { Laid cells.old }
+    ensures { Follows 0x0D 4 cpu (lent cells) result }
 {
     let v = operands::fetch(cpu, cells);
     cpu.load_y(v).past()
@@ -16,8 +17,8 @@ fn immediate_y(cpu: Registers, cells: &mut [u16]) -> Registers
 
 // CMP Y,#i
 fn compare_y(cpu: Registers, cells: &mut [u16]) -> Registers
-    requires { Laid cells }
-    ensures { Follows 0x0D 5 cpu cells result }
+    requires { Laid cells.old }
+    ensures { Follows 0x0D 5 cpu (lent cells) result }
 {
     let v = operands::fetch(cpu, cells);
     cpu.cmp(cpu.y, v).past()
@@ -25,8 +26,8 @@ fn compare_y(cpu: Registers, cells: &mut [u16]) -> Registers
 
 // MOV X,#i
 fn immediate_x(cpu: Registers, cells: &mut [u16]) -> Registers
-    requires { Laid cells }
-    ensures { Follows 0x0D 6 cpu cells result }
+    requires { Laid cells.old }
+    ensures { Follows 0x0D 6 cpu (lent cells) result }
 {
     let v = operands::fetch(cpu, cells);
     cpu.load_x(v).past()
@@ -34,9 +35,9 @@ fn immediate_x(cpu: Registers, cells: &mut [u16]) -> Registers
 
 // PUSH PSW, A, X, Y; MOV Y,#i; CMP Y,#i; MOV X,#i; NOTC
 pub fn column_0d(cpu: Registers, cells: &mut [u16], row: u8) -> Registers
-    requires laid { Laid cells }
+    requires laid { Laid cells.old }
     requires row_bound { row < 8 }
-    ensures { Follows 0x0D row cpu cells result }
+    ensures { Follows 0x0D row cpu (lent cells) result }
 {
     match row {
         0 => operands::push(cpu, cells, cpu.status()),

@@ -1,5 +1,6 @@
 // A target with a source; X with memory.
 ghost use Rattle.std.specs.Prelude.{◌<◌, ◌≤◌};
+ghost use Rattle.laws.specs.Lent.{lent};
 ghost use Rattle.modes.specs.Modes.{addressed};
 ghost use Rattle.registers.specs.Flat.{record_of};
 ghost use Rattle.cells.specs.Cells.{Laid, Performs};
@@ -10,9 +11,9 @@ use registers::Registers;
 
 // A source with the target at an address, PC behind the operand bytes.
 fn combined(cpu: Registers, cells: &mut [u16], row: u8, at: u16, source: u8) -> Registers
-    requires laid { Laid cells }
+    requires laid { Laid cells.old }
     requires row_bound { row < 6 }
-    ensures { Performs (paired row at source (record_of cpu)) cells (record_of result) }
+    ensures { Performs (paired row at source (record_of cpu)) (lent cells) (record_of result) }
 {
     let target = cells::read(cells, at);
     if row == 3 {
@@ -25,9 +26,9 @@ fn combined(cpu: Registers, cells: &mut [u16], row: u8, at: u16, source: u8) -> 
 
 // MOV of X to or from an address, PC behind the operand bytes.
 fn move_x(cpu: Registers, cells: &mut [u16], row: u8, at: u16) -> Registers
-    requires laid { Laid cells }
+    requires laid { Laid cells.old }
     requires le_row { (6 ≤ row) × (row < 8) }
-    ensures { Performs (moved row (addressed (record_of cpu) at)) cells (record_of result) }
+    ensures { Performs (moved row (addressed (record_of cpu) at)) (lent cells) (record_of result) }
 {
     if row == 6 {
         cells::store(cells, at, cpu.x);
@@ -39,9 +40,9 @@ fn move_x(cpu: Registers, cells: &mut [u16], row: u8, at: u16) -> Registers
 
 // d,d; in the last two rows MOV !a,X and MOV X,!a.
 pub fn column_09(cpu: Registers, cells: &mut [u16], row: u8) -> Registers
-    requires laid { Laid cells }
+    requires laid { Laid cells.old }
     requires row_bound { row < 8 }
-    ensures { Follows 0x09 row cpu cells result }
+    ensures { Follows 0x09 row cpu (lent cells) result }
 {
     if row >= 6 {
         let at = operands::abs_off(cpu, cells, 0);
@@ -56,9 +57,9 @@ pub fn column_09(cpu: Registers, cells: &mut [u16], row: u8) -> Registers
 
 // d,#i; in the last two rows MOV d,X and MOV X,d.
 pub fn column_18(cpu: Registers, cells: &mut [u16], row: u8) -> Registers
-    requires laid { Laid cells }
+    requires laid { Laid cells.old }
     requires row_bound { row < 8 }
-    ensures { Follows 0x18 row cpu cells result }
+    ensures { Follows 0x18 row cpu (lent cells) result }
 {
     if row >= 6 {
         let at = operands::d_off(cpu, cells, 0);
@@ -72,9 +73,9 @@ pub fn column_18(cpu: Registers, cells: &mut [u16], row: u8) -> Registers
 
 // (X),(Y); in the last two rows MOV d+Y,X and MOV X,d+Y.
 pub fn column_19(cpu: Registers, cells: &mut [u16], row: u8) -> Registers
-    requires laid { Laid cells }
+    requires laid { Laid cells.old }
     requires row_bound { row < 8 }
-    ensures { Follows 0x19 row cpu cells result }
+    ensures { Follows 0x19 row cpu (lent cells) result }
 {
     if row >= 6 {
         let at = operands::d_off(cpu, cells, cpu.y);

@@ -1,5 +1,6 @@
 // Shifts, DEC and INC of memory; Y with memory.
 ghost use Rattle.std.specs.Prelude.{◌<◌};
+ghost use Rattle.laws.specs.Lent.{lent};
 ghost use Rattle.cells.specs.Cells.{Laid};
 ghost use Rattle.by_column.specs.Columns.{Follows};
 
@@ -8,9 +9,9 @@ use registers::Registers;
 
 // d
 pub fn column_0b(cpu: Registers, cells: &mut [u16], row: u8) -> Registers
-    requires laid { Laid cells }
+    requires laid { Laid cells.old }
     requires row_bound { row < 8 }
-    ensures { Follows 0x0B row cpu cells result }
+    ensures { Follows 0x0B row cpu (lent cells) result }
 {
     let at = operands::d_off(cpu, cells, 0);
     let behind = cpu.past();
@@ -29,9 +30,9 @@ pub fn column_0b(cpu: Registers, cells: &mut [u16], row: u8) -> Registers
 
 // !a
 pub fn column_0c(cpu: Registers, cells: &mut [u16], row: u8) -> Registers
-    requires laid { Laid cells }
+    requires laid { Laid cells.old }
     requires row_bound { row < 8 }
-    ensures { Follows 0x0C row cpu cells result }
+    ensures { Follows 0x0C row cpu (lent cells) result }
 {
     let at = operands::abs_off(cpu, cells, 0);
     let behind = cpu.past().past();
@@ -50,9 +51,9 @@ pub fn column_0c(cpu: Registers, cells: &mut [u16], row: u8) -> Registers
 
 // d+X
 pub fn column_1b(cpu: Registers, cells: &mut [u16], row: u8) -> Registers
-    requires laid { Laid cells }
+    requires laid { Laid cells.old }
     requires row_bound { row < 8 }
-    ensures { Follows 0x1B row cpu cells result }
+    ensures { Follows 0x1B row cpu (lent cells) result }
 {
     let at = operands::d_off(cpu, cells, cpu.x);
     let behind = cpu.past();

@@ -1,5 +1,6 @@
 // Tests of bits, comparisons, with their branches; pops; DIV and DAS.
 ghost use Rattle.std.specs.Prelude.{◌<◌};
+ghost use Rattle.laws.specs.Lent.{lent};
 ghost use Rattle.modes.specs.Modes as modes;
 ghost use Rattle.instructions.specs.Rows.Operation.{cbne as compares_and_branches};
 ghost use Rattle.registers.specs.Flat.{record_of};
@@ -10,8 +11,8 @@ use registers::Registers;
 
 // TSET1
 fn tset(cpu: Registers, cells: &mut [u16]) -> Registers
-    requires { Laid cells }
-    ensures { Follows 0x0E 0 cpu cells result }
+    requires { Laid cells.old }
+    ensures { Follows 0x0E 0 cpu (lent cells) result }
 {
     let at = operands::abs_off(cpu, cells, 0);
     let v = cells::read(cells, at);
@@ -21,8 +22,8 @@ fn tset(cpu: Registers, cells: &mut [u16]) -> Registers
 
 // TCLR1
 fn tclr(cpu: Registers, cells: &mut [u16]) -> Registers
-    requires { Laid cells }
-    ensures { Follows 0x0E 2 cpu cells result }
+    requires { Laid cells.old }
+    ensures { Follows 0x0E 2 cpu (lent cells) result }
 {
     let at = operands::abs_off(cpu, cells, 0);
     let v = cells::read(cells, at);
@@ -32,8 +33,8 @@ fn tclr(cpu: Registers, cells: &mut [u16]) -> Registers
 
 // CBNE, d plus an index
 fn cbne(cpu: Registers, cells: &mut [u16], index: u8) -> Registers
-    requires { Laid cells }
-    ensures { Performs (compared_at (modes.direct index (record_of cpu)) compares_and_branches) cells (record_of result) }
+    requires { Laid cells.old }
+    ensures { Performs (compared_at (modes.direct index (record_of cpu)) compares_and_branches) (lent cells) (record_of result) }
 {
     let at = operands::d_off(cpu, cells, index);
     let v = cells::read(cells, at);
@@ -42,8 +43,8 @@ fn cbne(cpu: Registers, cells: &mut [u16], index: u8) -> Registers
 
 // DBNZ on memory, which stores before it reads its displacement
 fn dbnz_memory(cpu: Registers, cells: &mut [u16]) -> Registers
-    requires { Laid cells }
-    ensures { Follows 0x0E 3 cpu cells result }
+    requires { Laid cells.old }
+    ensures { Follows 0x0E 3 cpu (lent cells) result }
 {
     let at = operands::d_off(cpu, cells, 0);
     let v = cells::read(cells, at);
@@ -54,8 +55,8 @@ fn dbnz_memory(cpu: Registers, cells: &mut [u16]) -> Registers
 
 // DBNZ Y
 fn dbnz_y(cpu: Registers, cells: &mut [u16]) -> Registers
-    requires { Laid cells }
-    ensures { Follows 0x1E 7 cpu cells result }
+    requires { Laid cells.old }
+    ensures { Follows 0x1E 7 cpu (lent cells) result }
 {
     let less = processor::difference(cpu.y, 1);
     operands::branch(cpu.with_y(less), cells, less != 0)
@@ -63,32 +64,32 @@ fn dbnz_y(cpu: Registers, cells: &mut [u16]) -> Registers
 
 // Pops: the byte from the stack, and SP one up.
 fn pop_psw(cpu: Registers, cells: &mut [u16]) -> Registers
-    requires { Laid cells }
-    ensures { Follows 0x0E 4 cpu cells result }
+    requires { Laid cells.old }
+    ensures { Follows 0x0E 4 cpu (lent cells) result }
 {
     let v = operands::pull(cpu, cells);
     operands::raised(cpu).with_status(v)
 }
 
 fn pop_a(cpu: Registers, cells: &mut [u16]) -> Registers
-    requires { Laid cells }
-    ensures { Follows 0x0E 5 cpu cells result }
+    requires { Laid cells.old }
+    ensures { Follows 0x0E 5 cpu (lent cells) result }
 {
     let v = operands::pull(cpu, cells);
     operands::raised(cpu).with_a(v)
 }
 
 fn pop_x(cpu: Registers, cells: &mut [u16]) -> Registers
-    requires { Laid cells }
-    ensures { Follows 0x0E 6 cpu cells result }
+    requires { Laid cells.old }
+    ensures { Follows 0x0E 6 cpu (lent cells) result }
 {
     let v = operands::pull(cpu, cells);
     operands::raised(cpu).with_x(v)
 }
 
 fn pop_y(cpu: Registers, cells: &mut [u16]) -> Registers
-    requires { Laid cells }
-    ensures { Follows 0x0E 7 cpu cells result }
+    requires { Laid cells.old }
+    ensures { Follows 0x0E 7 cpu (lent cells) result }
 {
     let v = operands::pull(cpu, cells);
     operands::raised(cpu).with_y(v)
@@ -96,9 +97,9 @@ fn pop_y(cpu: Registers, cells: &mut [u16]) -> Registers
 
 // TSET1; CBNE d; TCLR1; DBNZ d; POP PSW, A, X, Y
 pub fn column_0e(cpu: Registers, cells: &mut [u16], row: u8) -> Registers
-    requires laid { Laid cells }
+    requires laid { Laid cells.old }
     requires row_bound { row < 8 }
-    ensures { Follows 0x0E row cpu cells result }
+    ensures { Follows 0x0E row cpu (lent cells) result }
 {
     match row {
         0 => tset(cpu, cells),
@@ -114,8 +115,8 @@ pub fn column_0e(cpu: Registers, cells: &mut [u16], row: u8) -> Registers
 
 // CMP X,!a
 fn compare_x_abs(cpu: Registers, cells: &mut [u16]) -> Registers
-    requires { Laid cells }
-    ensures { Follows 0x1E 0 cpu cells result }
+    requires { Laid cells.old }
+    ensures { Follows 0x1E 0 cpu (lent cells) result }
 {
     let at = operands::abs_off(cpu, cells, 0);
     let v = cells::read(cells, at);
@@ -124,8 +125,8 @@ fn compare_x_abs(cpu: Registers, cells: &mut [u16]) -> Registers
 
 // CMP X,d
 fn compare_x_d(cpu: Registers, cells: &mut [u16]) -> Registers
-    requires { Laid cells }
-    ensures { Follows 0x1E 1 cpu cells result }
+    requires { Laid cells.old }
+    ensures { Follows 0x1E 1 cpu (lent cells) result }
 {
     let at = operands::d_off(cpu, cells, 0);
     let v = cells::read(cells, at);
@@ -134,8 +135,8 @@ fn compare_x_d(cpu: Registers, cells: &mut [u16]) -> Registers
 
 // CMP Y,!a
 fn compare_y_abs(cpu: Registers, cells: &mut [u16]) -> Registers
-    requires { Laid cells }
-    ensures { Follows 0x1E 2 cpu cells result }
+    requires { Laid cells.old }
+    ensures { Follows 0x1E 2 cpu (lent cells) result }
 {
     let at = operands::abs_off(cpu, cells, 0);
     let v = cells::read(cells, at);
@@ -144,8 +145,8 @@ fn compare_y_abs(cpu: Registers, cells: &mut [u16]) -> Registers
 
 // CMP Y,d
 fn compare_y_d(cpu: Registers, cells: &mut [u16]) -> Registers
-    requires { Laid cells }
-    ensures { Follows 0x1E 3 cpu cells result }
+    requires { Laid cells.old }
+    ensures { Follows 0x1E 3 cpu (lent cells) result }
 {
     let at = operands::d_off(cpu, cells, 0);
     let v = cells::read(cells, at);
@@ -154,9 +155,9 @@ fn compare_y_d(cpu: Registers, cells: &mut [u16]) -> Registers
 
 // CMP X and CMP Y; DIV; DAS; CBNE d+X; DBNZ Y
 pub fn column_1e(cpu: Registers, cells: &mut [u16], row: u8) -> Registers
-    requires laid { Laid cells }
+    requires laid { Laid cells.old }
     requires row_bound { row < 8 }
-    ensures { Follows 0x1E row cpu cells result }
+    ensures { Follows 0x1E row cpu (lent cells) result }
 {
     match row {
         0 => compare_x_abs(cpu, cells),

@@ -1,5 +1,6 @@
 // Words of the direct page; MOV d,d.
 ghost use Rattle.std.specs.Prelude.{◌<◌, ◌≤◌};
+ghost use Rattle.laws.specs.Lent.{lent};
 ghost use Rattle.cells.specs.Cells.{Laid, Performs};
 ghost use Rattle.registers.specs.Flat.{record_of};
 ghost use Rattle.by_column.specs.Columns.{Follows, word_group, Leaves, word_stepped};
@@ -8,8 +9,8 @@ use registers::Registers;
 
 // DECW and INCW: the word plus a number, stored.
 fn step_word(cpu: Registers, cells: &mut [u16], by: u16) -> Registers
-    requires { Laid cells }
-    ensures { Performs (word_stepped by (record_of cpu)) cells (record_of result) }
+    requires { Laid cells.old }
+    ensures { Performs (word_stepped by (record_of cpu)) (lent cells) (record_of result) }
 {
     let byte = operands::fetch(cpu, cells);
     let at = operands::direct(cpu, byte, 0);
@@ -38,9 +39,9 @@ fn word_with(cpu: Registers, row: u8, low: u8, high: u8) -> Registers
 }
 
 fn with_word(cpu: Registers, cells: &mut [u16], row: u8) -> Registers
-    requires laid { Laid cells }
+    requires laid { Laid cells.old }
     requires le_row { (2 ≤ row) × (row < 6) }
-    ensures { Follows 0x1A row cpu cells result }
+    ensures { Follows 0x1A row cpu (lent cells) result }
 {
     let byte = operands::fetch(cpu, cells);
     let low = cells::read(cells, operands::direct(cpu, byte, 0));
@@ -50,8 +51,8 @@ fn with_word(cpu: Registers, cells: &mut [u16], row: u8) -> Registers
 
 // MOVW d,YA
 fn store_ya(cpu: Registers, cells: &mut [u16]) -> Registers
-    requires { Laid cells }
-    ensures { Follows 0x1A 6 cpu cells result }
+    requires { Laid cells.old }
+    ensures { Follows 0x1A 6 cpu (lent cells) result }
 {
     let byte = operands::fetch(cpu, cells);
     cells::store(cells, operands::direct(cpu, byte, 0), cpu.a);
@@ -61,8 +62,8 @@ fn store_ya(cpu: Registers, cells: &mut [u16]) -> Registers
 
 // MOV d,d
 fn direct_to_direct(cpu: Registers, cells: &mut [u16]) -> Registers
-    requires { Laid cells }
-    ensures { Follows 0x1A 7 cpu cells result }
+    requires { Laid cells.old }
+    ensures { Follows 0x1A 7 cpu (lent cells) result }
 {
     let from = operands::d_off(cpu, cells, 0);
     let next = cpu.past();
@@ -73,9 +74,9 @@ fn direct_to_direct(cpu: Registers, cells: &mut [u16]) -> Registers
 }
 
 pub fn column_1a(cpu: Registers, cells: &mut [u16], row: u8) -> Registers
-    requires laid { Laid cells }
+    requires laid { Laid cells.old }
     requires row_bound { row < 8 }
-    ensures { Follows 0x1A row cpu cells result }
+    ensures { Follows 0x1A row cpu (lent cells) result }
 {
     match row {
         0 => step_word(cpu, cells, 65535),

@@ -1,6 +1,6 @@
 -- What a row of cells stands for: memory and both maps. A long run works on cells; this page says how they are read.
 use Rattle.std.specs.Prelude.{ℕ, zero, suc, ◌+◌, ◌*◌, ◌/◌, ◌%◌, ◌^◌, ◌≡◌, List, [], ◌∷◌, length, get_or}
-use Rattle.laws.specs.Lent.{Slice, Lent}
+use Rattle.laws.specs.Lent.{Lent}
 use Rattle.memory.specs.World.{World, world}
 use Rattle.memory.specs.Access.{Access, outcome, Does}
 
@@ -34,9 +34,9 @@ unfoldable pub world_of : List ℕ → World
 world_of cells = world (values 65536 0 (byte_of cells)) (values 8192 0 (eight_of 8 cells)) (values 8192 0 (eight_of 9 cells))
 
 -- What a function on cells asks for: one for each address.
-abbrev pub Laid : Slice → Type 0
-Laid cells = length cells.now ≡ 65536
+abbrev pub Laid : List ℕ → Type 0
+Laid cells = length cells ≡ 65536
 
 -- What it promises: on what the cells stand for, `p` is performed, and `r` comes of it.
 abbrev pub Performs : {R : Type 0} → Access R → Lent → R → Type 0
-Performs p cells r = Does p (world_of cells.entry.now) (outcome r (world_of cells.exit.now))
+Performs p cells r = Does p (world_of cells.entry) (outcome r (world_of cells.exit))

@@ -5,6 +5,7 @@
 
 mod rows;
 
+ghost use Rattle.laws.specs.Lent.{lent};
 ghost use Rattle.memory.specs.Access.{ask, put};
 ghost use Rattle.cells.specs.Cells.{Laid, Performs};
 
@@ -12,8 +13,8 @@ pub use rows::{lay_out, put_back};
 
 // The byte at an address, which is marked as read unless it has been stored to before.
 pub fn read(cells: &mut [u16], at: u16) -> u8
-    requires { Laid cells }
-    ensures { Performs (ask at) cells result }
+    requires { Laid cells.old }
+    ensures { Performs (ask at) (lent cells) result }
 {
     let k = at as usize;
     let cell = cells[k];
@@ -26,8 +27,8 @@ pub fn read(cells: &mut [u16], at: u16) -> u8
 
 // Stores a byte at an address.
 pub fn store(cells: &mut [u16], at: u16, byte: u8)
-    requires { Laid cells }
-    ensures { Performs (put at byte) cells tt }
+    requires { Laid cells.old }
+    ensures { Performs (put at byte) (lent cells) tt }
 {
     let k = at as usize;
     cells[k] = cells[k] / 256 % 2 * 256 + 512 + byte as u16;

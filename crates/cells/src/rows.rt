@@ -1,5 +1,6 @@
 // The way in and the way out: memory and maps laid out as cells, and cells put back into memory and maps.
 ghost use Rattle.std.specs.Prelude.{◌<◌, ◌≤◌, ◌≡◌, cond, length};
+ghost use Rattle.laws.specs.Lent.{shared, lent};
 ghost use Rattle.memory.specs.Contracts.{before, after, Ready};
 ghost use Rattle.cells.specs.Cells.{byte_of, mark_of, eight_of, values, world_of, Laid};
 
@@ -12,9 +13,9 @@ fn bit_if(marked: bool, value: u16) -> u16
 
 // A cell for each address.
 pub fn lay_out(cells: &mut [u16], memory: &[u8], reads: &[u8], writes: &[u8])
-    requires laid { Laid cells }
-    requires ready { Ready memory reads writes }
-    ensures { world_of cells.new ≡ before memory reads writes }
+    requires laid { Laid cells.old }
+    requires ready { Ready memory.now reads.now writes.now }
+    ensures { world_of cells.new ≡ before (shared memory) (shared reads) (shared writes) }
 {
     let mut k: usize = 0;
     while k < 65536 {
@@ -28,7 +29,7 @@ pub fn lay_out(cells: &mut [u16], memory: &[u8], reads: &[u8], writes: &[u8])
 
 // The low byte of each cell.
 fn put_bytes(cells: &[u16], memory: &mut [u8])
-    requires laid { Laid cells }
+    requires laid { Laid cells.now }
     requires memory_len { length memory.old ≡ 65536 }
     ensures { memory.new ≡ values 65536 0 (byte_of cells.now) }
 {
@@ -41,7 +42,7 @@ fn put_bytes(cells: &[u16], memory: &mut [u8])
 
 // One bit of a cell.
 fn mark_of(cells: &[u16], bit: u16, k: usize) -> u8
-    requires laid { Laid cells }
+    requires laid { Laid cells.now }
     requires bit_bound { (bit < 16) × (k < 65536) }
     ensures { (result ≡ mark_of bit cells.now k) × (result ≤ 1) }
 {
@@ -50,7 +51,7 @@ fn mark_of(cells: &[u16], bit: u16, k: usize) -> u8
 
 // The marks of eight addresses.
 fn eight(cells: &[u16], bit: u16, i: usize) -> u8
-    requires laid { Laid cells }
+    requires laid { Laid cells.now }
     requires bit_bound { (bit < 16) × (i < 8192) }
     ensures { result ≡ eight_of bit cells.now i }
 {
@@ -68,7 +69,7 @@ fn eight(cells: &[u16], bit: u16, i: usize) -> u8
 
 // The marks that one bit of the cells holds.
 fn put_marks(cells: &[u16], bit: u16, map: &mut [u8])
-    requires laid { Laid cells }
+    requires laid { Laid cells.now }
     requires bit_bound { (bit < 16) × (length map.old ≡ 8192) }
     ensures { map.new ≡ values 8192 0 (eight_of bit cells.now) }
 {
@@ -81,9 +82,9 @@ fn put_marks(cells: &[u16], bit: u16, map: &mut [u8])
 
 // Memory and maps of the cells.
 pub fn put_back(cells: &[u16], memory: &mut [u8], reads: &mut [u8], writes: &mut [u8])
-    requires laid { Laid cells }
-    requires ready { Ready memory reads writes }
-    ensures { after memory reads writes ≡ world_of cells.now }
+    requires laid { Laid cells.now }
+    requires ready { Ready memory.old reads.old writes.old }
+    ensures { after (lent memory) (lent reads) (lent writes) ≡ world_of cells.now }
 {
     put_bytes(cells, memory);
     put_marks(cells, 8, reads);

@@ -2,6 +2,7 @@
 #![tactic(auto)]
 
 ghost use Rattle.std.specs.Prelude.{◌≡◌, ◌≤◌};
+ghost use Rattle.laws.specs.Lent.{lent};
 ghost use Rattle.laws.specs.Filled.{Fills};
 ghost use Rattle.differences.specs.Calls.{stretches_of, marks_of, refused, accepted, lengths_refusal, written, differences_of};
 ghost use Rattle.differences.specs.Walk.{Pair, Usable, Room, Found, touches_up_to};
@@ -133,7 +134,7 @@ pub fn between(
     map: &[u8],
     row: &mut [u16],
 ) -> Differences
-    ensures { Fills (differences_of first.now second.now has_map map.now) row result }
+    ensures { Fills (differences_of first.now second.now has_map map.now) (lent row) result }
 {
     let refusal = refusal_of(first, second, has_map, map);
     if refusal != 0 {

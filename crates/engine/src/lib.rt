@@ -4,6 +4,7 @@
 mod phases;
 
 ghost use Rattle.std.specs.Prelude.{◌≡◌};
+ghost use Rattle.laws.specs.Lent.{shared, lent};
 ghost use Rattle.memory.specs.Contracts.{before, Ready, Yields};
 ghost use Rattle.engine.specs.Entry.{ran, accepted, refusal_of, run_of, step_answer, run_answer};
 
@@ -32,7 +33,7 @@ fn refused(refusal: u8, cpu: Processor) -> Ran
 
 // The number of the first test that the edition and the lengths of memory and maps do not pass, or 0.
 fn refusal_of(edition: u8, memory: &[u8], reads: &[u8], writes: &[u8]) -> u8
-    ensures { result ≡ refusal_of edition (before memory reads writes) }
+    ensures { result ≡ refusal_of edition (before (shared memory) (shared reads) (shared writes)) }
 {
     if !editions::is_edition(edition) {
         return 9;
@@ -58,8 +59,8 @@ fn take_steps(
     writes: &mut [u8],
     budget: u32,
 ) -> Ran
-    requires { Ready memory reads writes }
-    ensures { Yields (λ w. accepted (run_of edition budget cpu w)) memory reads writes result }
+    requires { Ready memory.old reads.old writes.old }
+    ensures { Yields (λ w. accepted (run_of edition budget cpu w)) (lent memory) (lent reads) (lent writes) result }
 {
     let mut next = cpu;
     let mut left: u32 = budget;
@@ -86,7 +87,7 @@ fn run_short(
     writes: &mut [u8],
     budget: u32,
 ) -> Ran
-    ensures { Yields (run_answer edition budget cpu) memory reads writes result }
+    ensures { Yields (run_answer edition budget cpu) (lent memory) (lent reads) (lent writes) result }
 {
     let refusal = refusal_of(edition, memory, reads, writes);
     if refusal != 0 {
@@ -105,7 +106,7 @@ fn run_long(
     writes: &mut [u8],
     budget: u32,
 ) -> Ran
-    ensures { Yields (run_answer edition budget cpu) memory reads writes result }
+    ensures { Yields (run_answer edition budget cpu) (lent memory) (lent reads) (lent writes) result }
 {
     let refusal = refusal_of(edition, memory, reads, writes);
     if refusal != 0 {
@@ -134,7 +135,7 @@ pub fn run(
     writes: &mut [u8],
     budget: u32,
 ) -> Ran
-    ensures { Yields (run_answer edition budget cpu) memory reads writes result }
+    ensures { Yields (run_answer edition budget cpu) (lent memory) (lent reads) (lent writes) result }
 {
     // where the long way begins to pay: docs/DECISIONS.md
     if budget < 12000 {
@@ -152,7 +153,7 @@ pub fn step(
     reads: &mut [u8],
     writes: &mut [u8],
 ) -> Ran
-    ensures { Yields (step_answer edition cpu) memory reads writes result }
+    ensures { Yields (step_answer edition cpu) (lent memory) (lent reads) (lent writes) result }
 {
     run_short(cpu, edition, memory, reads, writes, 1)
 }

@@ -1,5 +1,6 @@
 // The phases of an instruction: a transaction. What it reads comes first, then what it makes of that, then the stores, and last a
 // taken displacement.
+ghost use Rattle.laws.specs.Lent.{shared, lent};
 ghost use Rattle.memory.specs.Contracts.{Ready, Performs};
 ghost use Rattle.instructions.specs.Step.{begin_of, commit_of, branch_of, finish_of, step_of};
 
@@ -9,8 +10,8 @@ use processor::Processor;
 
 // The opcode, and what its instruction reads before it stores.
 fn begin(cpu: Processor, edition: Edition, memory: &[u8], reads: &mut [u8], writes: &[u8]) -> Begun
-    requires { Ready memory reads writes }
-    ensures { Performs (begin_of edition cpu) memory reads writes result }
+    requires { Ready memory.now reads.old writes.now }
+    ensures { Performs (begin_of edition cpu) (shared memory) (lent reads) (shared writes) result }
 {
     let fetched = modes::fetch_u8(cpu, memory, reads, writes);
     let next = fetched.cpu;
@@ -29,8 +30,8 @@ fn commit(
     writes: &mut [u8],
     stores: Stores,
 ) -> Processor
-    requires { Ready memory reads writes }
-    ensures { Performs (commit_of stores cpu) memory reads writes result }
+    requires { Ready memory.old reads.now writes.old }
+    ensures { Performs (commit_of stores cpu) (lent memory) (shared reads) (lent writes) result }
 {
     match stores {
         Stores::Nothing => cpu,
@@ -58,8 +59,8 @@ fn interrupt(
     byte: u8,
     target: u16,
 ) -> Processor
-    requires { Ready memory reads writes }
-    ensures { Performs (commit_of (Stores.Break byte target) cpu) memory reads writes result }
+    requires { Ready memory.old reads.now writes.old }
+    ensures { Performs (commit_of (Stores.Break byte target) cpu) (lent memory) (shared reads) (lent writes) result }
 {
     let pushed = modes::push_to_stack_u16(cpu, memory, reads, writes, cpu.pc);
     let mut next = modes::push_to_stack_u8(pushed, memory, reads, writes, byte);
@@ -69,8 +70,8 @@ fn interrupt(
 
 // A taken displacement.
 fn branch(cpu: Processor, memory: &[u8], reads: &mut [u8], writes: &[u8], taken: bool) -> Processor
-    requires { Ready memory reads writes }
-    ensures { Performs (branch_of taken cpu) memory reads writes result }
+    requires { Ready memory.now reads.old writes.now }
+    ensures { Performs (branch_of taken cpu) (shared memory) (lent reads) (shared writes) result }
 {
     if taken {
         return modes::branch_imm(cpu, memory, reads, writes);
@@ -80,8 +81,8 @@ fn branch(cpu: Processor, memory: &[u8], reads: &mut [u8], writes: &[u8], taken:
 
 // The stores, and then the displacement.
 fn finish(made: Effect, memory: &mut [u8], reads: &mut [u8], writes: &mut [u8]) -> Processor
-    requires { Ready memory reads writes }
-    ensures { Performs (finish_of made) memory reads writes result }
+    requires { Ready memory.old reads.old writes.old }
+    ensures { Performs (finish_of made) (lent memory) (lent reads) (lent writes) result }
 {
     let cpu = made.cpu;
     let stores = made.stores;
@@ -97,8 +98,8 @@ pub fn instruction(
     reads: &mut [u8],
     writes: &mut [u8],
 ) -> Processor
-    requires { Ready memory reads writes }
-    ensures { Performs (step_of edition cpu) memory reads writes result }
+    requires { Ready memory.old reads.old writes.old }
+    ensures { Performs (step_of edition cpu) (lent memory) (lent reads) (lent writes) result }
 {
     let begun = begin(cpu, edition, memory, reads, writes);
     let operands = begun.operands;

@@ -49,7 +49,7 @@ pub record Handed (ran : Ran) (before after : List ℕ) (r : ℕ) : Type 0 where
 
 -- the contract of who hands it back
 abbrev pub HandsBack : Ran → Lent → ℕ → Type 0
-HandsBack ran registers r = Handed ran registers.entry.now registers.exit.now r
+HandsBack ran registers r = Handed ran registers.entry registers.exit r
 
 -- Refusal 6 exactly if the registers are not a whole record, eight bytes of which the last is 0, 1 or 2, before all others.
 abbrev pub on_bytes : (Processor → World → Outcome World Ran) → List ℕ → World → Called
@@ -72,7 +72,7 @@ wake_call registers = cond (is_whole registers) (filled 0 (whole_bytes_of (woken
 -- What a call promises: it answers and leaves what `call` makes of the registers' bytes, memory and maps.
 abbrev pub CallYields : (List ℕ → World → Called) → Lent → Lent → Lent → Lent → ℕ → Type 0
 CallYields call registers memory reads writes r =
-    called r registers.exit.now (after memory reads writes) ≡ call registers.entry.now (before memory reads writes)
+    called r registers.exit (after memory reads writes) ≡ call registers.entry (before memory reads writes)
 
 -- A call that answers by one number; and one whose number says the refusal alone.
 abbrev pub numbered_by : {R : Type 0} → (R → ℕ) → Filled R → Filled ℕ
@@ -138,4 +138,4 @@ text_number t = packed t.refusal 0 t.length
 
 -- What a call that is to give a text promises: the number of the text's own answer, and what the text's own call leaves in the buffer.
 abbrev pub TextYields : Wanted → Lent → ℕ → Type 0
-TextYields w text r = (r ≡ text_number (answer_to w text.entry.now)) × (text.exit.now ≡ buffer_after w text.entry.now)
+TextYields w text r = (r ≡ text_number (answer_to w text.entry)) × (text.exit ≡ buffer_after w text.entry)

@@ -4,6 +4,7 @@
 #![tactic(auto)]
 
 ghost use Rattle.std.specs.Prelude.{◌≡◌, length};
+ghost use Rattle.laws.specs.Lent.{shared, lent};
 ghost use Rattle.listing.specs.Instruction.{listed_of};
 ghost use Rattle.laws.specs.Filled.{Fills};
 ghost use Rattle.exports.specs.Calls.{packed, HandsBack, step_call, run_call, wake_call, CallYields, TextYields};
@@ -23,7 +24,7 @@ fn packed(refusal: u8, stop: u8, number: u32) -> u64
 // lent to it, so its contract holds whatever they are.
 fn hand_back(registers: &mut [u8], ran: Ran) -> u64
     requires { length registers.old ≡ 8 }
-    ensures { HandsBack ran registers result }
+    ensures { HandsBack ran (lent registers) result }
 {
     let refusal = ran.refusal;
     if refusal != 0 {
@@ -44,7 +45,7 @@ pub extern "C" fn spc700_step(
     reads: &mut [u8],
     writes: &mut [u8],
 ) -> u64
-    ensures { CallYields (step_call edition) registers memory reads writes result }
+    ensures { CallYields (step_call edition) (lent registers) (lent memory) (lent reads) (lent writes) result }
 {
     if !state::is_whole(registers) {
         return packed(6, 0, 0);
@@ -64,7 +65,7 @@ pub extern "C" fn spc700_run(
     reads: &mut [u8],
     writes: &mut [u8],
 ) -> u64
-    ensures { CallYields (run_call edition budget) registers memory reads writes result }
+    ensures { CallYields (run_call edition budget) (lent registers) (lent memory) (lent reads) (lent writes) result }
 {
     if !state::is_whole(registers) {
         return packed(6, 0, 0);
@@ -77,7 +78,7 @@ pub extern "C" fn spc700_run(
 // Sets the record awake, and changes nothing else. Refusal: 6 as for a step.
 #[unsafe(no_mangle)]
 pub extern "C" fn spc700_wake(registers: &mut [u8]) -> u64
-    ensures { Fills wake_call registers result }
+    ensures { Fills wake_call (lent registers) result }
 {
     if !state::is_whole(registers) {
         return packed(6, 0, 0);
@@ -91,7 +92,7 @@ pub extern "C" fn spc700_wake(registers: &mut [u8]) -> u64
 // long, 2 a map that is not 8,192 bytes.
 #[unsafe(no_mangle)]
 pub extern "C" fn spc700_counts(reads: &[u8], writes: &[u8], counts: &mut [u32]) -> u64
-    ensures { Fills (counts_call reads.now writes.now) counts result }
+    ensures { Fills (counts_call reads.now writes.now) (lent counts) result }
 {
     if counts.len() != 3 {
         return packed(6, 0, 0);
@@ -117,7 +118,7 @@ pub extern "C" fn spc700_differences(
     map: &[u8],
     row: &mut [u16],
 ) -> u64
-    ensures { Fills (differences_call first.now second.now has_map map.now) row result }
+    ensures { Fills (differences_call first.now second.now has_map map.now) (lent row) result }
 {
     let found = differences::between(first, second, has_map != 0, map, row);
     packed(found.refusal, found.touched as u8, found.stretches)
@@ -127,7 +128,7 @@ pub extern "C" fn spc700_differences(
 // not 65,536 bytes, 2 a map that is not 8,192 bytes.
 #[unsafe(no_mangle)]
 pub extern "C" fn spc700_blank(memory: &mut [u8], map: &[u8], byte: u8) -> u64
-    ensures { Fills (blank_call map.now byte) memory result }
+    ensures { Fills (blank_call map.now byte) (lent memory) result }
 {
     let blanked = blanking::blank(memory, map, byte);
     packed(blanked.refusal, 0, blanked.blanked)
@@ -136,7 +137,7 @@ pub extern "C" fn spc700_blank(memory: &mut [u8], map: &[u8], byte: u8) -> u64
 // One instruction's text from its bytes. Refusals: 4 fewer bytes than the instruction has, 3 a buffer that is too short.
 #[unsafe(no_mangle)]
 pub extern "C" fn spc700_text(code: &[u8], text: &mut [u8]) -> u64
-    ensures { TextYields (listed_of code.now) text result }
+    ensures { TextYields (listed_of code.now) (lent text) result }
 {
     let written = listing::instruction(code, text);
     // a text has at most 80 bytes
@@ -147,7 +148,7 @@ pub extern "C" fn spc700_text(code: &[u8], text: &mut [u8]) -> u64
 // 8 a file that begins otherwise.
 #[unsafe(no_mangle)]
 pub extern "C" fn spc700_file_read(file: &[u8], registers: &mut [u8]) -> u64
-    ensures { Fills (file_read_call file.now) registers result }
+    ensures { Fills (file_read_call file.now) (lent registers) result }
 {
     if registers.len() != 8 {
         return packed(6, 0, 0);
@@ -165,7 +166,7 @@ pub extern "C" fn spc700_file_read(file: &[u8], registers: &mut [u8]) -> u64
 // that is not awake.
 #[unsafe(no_mangle)]
 pub extern "C" fn spc700_file_write(file: &mut [u8], registers: &[u8], memory: &[u8]) -> u64
-    ensures { Fills (file_write_call registers.now memory.now) file result }
+    ensures { Fills (file_write_call registers.now memory.now) (lent file) result }
 {
     if !state::is_whole(registers) {
         return packed(6, 0, 0);
@@ -178,7 +179,7 @@ pub extern "C" fn spc700_file_write(file: &mut [u8], registers: &[u8], memory: &
 // 66,048 bytes.
 #[unsafe(no_mangle)]
 pub extern "C" fn spc700_file_from_record(file: &mut [u8], record: &[u8]) -> u64
-    ensures { Fills (file_from_record_call «record».now) file result }
+    ensures { Fills (file_from_record_call «(shared record)».now) (lent file) result }
 {
     packed(conversion::file_from_record(file, record), 0, 0)
 }
@@ -187,7 +188,7 @@ pub extern "C" fn spc700_file_from_record(file: &mut [u8], record: &[u8]) -> u64
 // unnamed byte that is not its default.
 #[unsafe(no_mangle)]
 pub extern "C" fn spc700_record_from_file(record: &mut [u8], file: &[u8]) -> u64
-    ensures { Fills (record_from_file_call file.now) «record» result }
+    ensures { Fills (record_from_file_call file.now) «(lent record)» result }
 {
     packed(conversion::record_from_file(record, file), 0, 0)
 }

@@ -1,5 +1,6 @@
 // Modes that read nothing, or one byte in every row.
 ghost use Rattle.std.specs.Prelude.{◌≡◌};
+ghost use Rattle.laws.specs.Lent.{shared, lent};
 ghost use Rattle.memory.specs.Contracts.{Ready, Performs};
 ghost use Rattle.instructions.specs.Rows.Mode.{immediate, direct, direct_x, absolute, pulled};
 ghost use Rattle.instructions.specs.Gather.{operands};
@@ -24,8 +25,8 @@ pub fn implied(cpu: Processor) -> Operands
 
 // d: the byte there.
 pub fn direct(cpu: Processor, memory: &[u8], reads: &mut [u8], writes: &[u8]) -> Operands
-    requires { Ready memory reads writes }
-    ensures { Performs (plainly direct cpu) memory reads writes result }
+    requires { Ready memory.now reads.old writes.now }
+    ensures { Performs (plainly direct cpu) (shared memory) (lent reads) (shared writes) result }
 {
     let found = modes::d(cpu, memory, reads, writes);
     load(found, memory, reads, writes)
@@ -33,8 +34,8 @@ pub fn direct(cpu: Processor, memory: &[u8], reads: &mut [u8], writes: &[u8]) ->
 
 // d+X: the byte there.
 pub fn direct_x(cpu: Processor, memory: &[u8], reads: &mut [u8], writes: &[u8]) -> Operands
-    requires { Ready memory reads writes }
-    ensures { Performs (plainly direct_x cpu) memory reads writes result }
+    requires { Ready memory.now reads.old writes.now }
+    ensures { Performs (plainly direct_x cpu) (shared memory) (lent reads) (shared writes) result }
 {
     let found = modes::dx(cpu, memory, reads, writes);
     load(found, memory, reads, writes)
@@ -42,8 +43,8 @@ pub fn direct_x(cpu: Processor, memory: &[u8], reads: &mut [u8], writes: &[u8]) 
 
 // !a: the byte there.
 pub fn absolute(cpu: Processor, memory: &[u8], reads: &mut [u8], writes: &[u8]) -> Operands
-    requires { Ready memory reads writes }
-    ensures { Performs (plainly absolute cpu) memory reads writes result }
+    requires { Ready memory.now reads.old writes.now }
+    ensures { Performs (plainly absolute cpu) (shared memory) (lent reads) (shared writes) result }
 {
     let found = modes::abs(cpu, memory, reads, writes);
     load(found, memory, reads, writes)
@@ -65,16 +66,16 @@ fn byte_only(read: Produced) -> Operands
 
 // An operand byte.
 pub fn immediate(cpu: Processor, memory: &[u8], reads: &mut [u8], writes: &[u8]) -> Operands
-    requires { Ready memory reads writes }
-    ensures { Performs (plainly immediate cpu) memory reads writes result }
+    requires { Ready memory.now reads.old writes.now }
+    ensures { Performs (plainly immediate cpu) (shared memory) (lent reads) (shared writes) result }
 {
     byte_only(modes::fetch_u8(cpu, memory, reads, writes))
 }
 
 // A byte from the stack.
 pub fn pulled(cpu: Processor, memory: &[u8], reads: &mut [u8], writes: &[u8]) -> Operands
-    requires { Ready memory reads writes }
-    ensures { Performs (plainly pulled cpu) memory reads writes result }
+    requires { Ready memory.now reads.old writes.now }
+    ensures { Performs (plainly pulled cpu) (shared memory) (lent reads) (shared writes) result }
 {
     byte_only(modes::pull_from_stack_u8(cpu, memory, reads, writes))
 }

@@ -1,5 +1,6 @@
 // The columns of the table whose rows do not all read alike. A column is the opcode's low five bits.
 ghost use Rattle.std.specs.Prelude.{◌≡◌};
+ghost use Rattle.laws.specs.Lent.{shared, lent};
 ghost use Rattle.std.specs.Int.Bits.{bit_and};
 ghost use Rattle.memory.specs.Contracts.{Ready};
 ghost use Rattle.gather.specs.Columns.{RowPerforms};
@@ -10,9 +11,9 @@ use processor::Processor;
 
 // d,d; in the last two rows MOV !a,X and MOV X,!a.
 pub fn column_09(cpu: Processor, memory: &[u8], reads: &mut [u8], writes: &[u8], op: u8) -> Operands
-    requires ready { Ready memory reads writes }
+    requires ready { Ready memory.now reads.old writes.now }
     requires op_value { bit_and op 0x1F ≡ 0x09 }
-    ensures { RowPerforms op cpu memory reads writes result }
+    ensures { RowPerforms op cpu (shared memory) (lent reads) (shared writes) result }
 {
     if op < 0xC0 {
         return several::direct_direct(cpu, memory, reads, writes);
@@ -22,9 +23,9 @@ pub fn column_09(cpu: Processor, memory: &[u8], reads: &mut [u8], writes: &[u8],
 
 // Immediates; pushes and moves between registers, which read nothing.
 pub fn column_0d(cpu: Processor, memory: &[u8], reads: &mut [u8], writes: &[u8], op: u8) -> Operands
-    requires ready { Ready memory reads writes }
+    requires ready { Ready memory.now reads.old writes.now }
     requires op_value { bit_and op 0x1F ≡ 0x0D }
-    ensures { RowPerforms op cpu memory reads writes result }
+    ensures { RowPerforms op cpu (shared memory) (lent reads) (shared writes) result }
 {
     match op {
         opcodes::MOV_Y_IMM | opcodes::CMP_Y_IMM | opcodes::MOV_X_IMM => bytes::immediate(
@@ -36,9 +37,9 @@ pub fn column_0d(cpu: Processor, memory: &[u8], reads: &mut [u8], writes: &[u8],
 
 // TSET1 and TCLR1; CBNE and DBNZ; pops.
 pub fn column_0e(cpu: Processor, memory: &[u8], reads: &mut [u8], writes: &[u8], op: u8) -> Operands
-    requires ready { Ready memory reads writes }
+    requires ready { Ready memory.now reads.old writes.now }
     requires op_value { bit_and op 0x1F ≡ 0x0E }
-    ensures { RowPerforms op cpu memory reads writes result }
+    ensures { RowPerforms op cpu (shared memory) (lent reads) (shared writes) result }
 {
     match op {
         opcodes::TSET1_ABS | opcodes::TCLR1_ABS => bytes::absolute(cpu, memory, reads, writes),
@@ -49,9 +50,9 @@ pub fn column_0e(cpu: Processor, memory: &[u8], reads: &mut [u8], writes: &[u8],
 
 // BRK, PCALL and RET; MOV d,#i and MOV (X)+,A; the rest reads nothing.
 pub fn column_0f(cpu: Processor, memory: &[u8], reads: &mut [u8], writes: &[u8], op: u8) -> Operands
-    requires ready { Ready memory reads writes }
+    requires ready { Ready memory.now reads.old writes.now }
     requires op_value { bit_and op 0x1F ≡ 0x0F }
-    ensures { RowPerforms op cpu memory reads writes result }
+    ensures { RowPerforms op cpu (shared memory) (lent reads) (shared writes) result }
 {
     match op {
         opcodes::BRK => ways::vector_at(cpu, memory, reads, writes, 0xFFDE),
@@ -65,9 +66,9 @@ pub fn column_0f(cpu: Processor, memory: &[u8], reads: &mut [u8], writes: &[u8],
 
 // d,#i; in the last two rows MOV d,X and MOV X,d.
 pub fn column_18(cpu: Processor, memory: &[u8], reads: &mut [u8], writes: &[u8], op: u8) -> Operands
-    requires ready { Ready memory reads writes }
+    requires ready { Ready memory.now reads.old writes.now }
     requires op_value { bit_and op 0x1F ≡ 0x18 }
-    ensures { RowPerforms op cpu memory reads writes result }
+    ensures { RowPerforms op cpu (shared memory) (lent reads) (shared writes) result }
 {
     if op < 0xC0 {
         return several::direct_immediate(cpu, memory, reads, writes);
@@ -77,9 +78,9 @@ pub fn column_18(cpu: Processor, memory: &[u8], reads: &mut [u8], writes: &[u8],
 
 // (X),(Y); in the last two rows MOV d+Y,X and MOV X,d+Y.
 pub fn column_19(cpu: Processor, memory: &[u8], reads: &mut [u8], writes: &[u8], op: u8) -> Operands
-    requires ready { Ready memory reads writes }
+    requires ready { Ready memory.now reads.old writes.now }
     requires op_value { bit_and op 0x1F ≡ 0x19 }
-    ensures { RowPerforms op cpu memory reads writes result }
+    ensures { RowPerforms op cpu (shared memory) (lent reads) (shared writes) result }
 {
     if op < 0xC0 {
         return several::at_x_at_y(cpu, memory, reads, writes);
@@ -89,9 +90,9 @@ pub fn column_19(cpu: Processor, memory: &[u8], reads: &mut [u8], writes: &[u8],
 
 // Words of the direct page; MOV d,d.
 pub fn column_1a(cpu: Processor, memory: &[u8], reads: &mut [u8], writes: &[u8], op: u8) -> Operands
-    requires ready { Ready memory reads writes }
+    requires ready { Ready memory.now reads.old writes.now }
     requires op_value { bit_and op 0x1F ≡ 0x1A }
-    ensures { RowPerforms op cpu memory reads writes result }
+    ensures { RowPerforms op cpu (shared memory) (lent reads) (shared writes) result }
 {
     match op {
         opcodes::MOVW_D_YA => several::to_direct_word(cpu, memory, reads, writes),
@@ -102,9 +103,9 @@ pub fn column_1a(cpu: Processor, memory: &[u8], reads: &mut [u8], writes: &[u8],
 
 // CMP of X and Y; CBNE d+X; the rest reads nothing.
 pub fn column_1e(cpu: Processor, memory: &[u8], reads: &mut [u8], writes: &[u8], op: u8) -> Operands
-    requires ready { Ready memory reads writes }
+    requires ready { Ready memory.now reads.old writes.now }
     requires op_value { bit_and op 0x1F ≡ 0x1E }
-    ensures { RowPerforms op cpu memory reads writes result }
+    ensures { RowPerforms op cpu (shared memory) (lent reads) (shared writes) result }
 {
     match op {
         opcodes::CMP_X_ABS | opcodes::CMP_Y_ABS => bytes::absolute(cpu, memory, reads, writes),
@@ -116,9 +117,9 @@ pub fn column_1e(cpu: Processor, memory: &[u8], reads: &mut [u8], writes: &[u8],
 
 // Jumps, CALL and RETI; MOV A,(X)+; the rest reads nothing.
 pub fn column_1f(cpu: Processor, memory: &[u8], reads: &mut [u8], writes: &[u8], op: u8) -> Operands
-    requires ready { Ready memory reads writes }
+    requires ready { Ready memory.now reads.old writes.now }
     requires op_value { bit_and op 0x1F ≡ 0x1F }
-    ensures { RowPerforms op cpu memory reads writes result }
+    ensures { RowPerforms op cpu (shared memory) (lent reads) (shared writes) result }
 {
     match op {
         opcodes::JMP_IAX => ways::word_at_x(cpu, memory, reads, writes),

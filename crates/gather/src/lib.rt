@@ -7,6 +7,7 @@ mod places;
 mod several;
 mod ways;
 
+ghost use Rattle.laws.specs.Lent.{shared, lent};
 ghost use Rattle.memory.specs.Contracts.{Ready, Performs};
 ghost use Rattle.instructions.specs.Gather.{gather_of};
 ghost use Rattle.instructions.specs.Rows.{row_of};
@@ -25,8 +26,8 @@ pub fn gather(
     writes: &[u8],
     op: u8,
 ) -> Operands
-    requires { Ready memory reads writes }
-    ensures { Performs (gather_of edition (row_of op).mode op cpu) memory reads writes result }
+    requires { Ready memory.now reads.old writes.now }
+    ensures { Performs (gather_of edition (row_of op).mode op cpu) (shared memory) (lent reads) (shared writes) result }
 {
     match op & 0x1F {
         0x09 => columns::column_09(cpu, memory, reads, writes, op),

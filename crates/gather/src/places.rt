@@ -1,5 +1,6 @@
 // What an address that a mode found is for: the byte there, or the address alone.
 ghost use Rattle.std.specs.Prelude.{◌≡◌};
+ghost use Rattle.laws.specs.Lent.{shared, lent};
 ghost use Rattle.memory.specs.Contracts.{Ready, Performs};
 ghost use Rattle.memory.specs.Access.{then};
 ghost use Rattle.modes.specs.Modes as mode;
@@ -27,8 +28,8 @@ pub fn aim(found: Addressed) -> Operands
 
 // An address with the byte that stands there.
 pub fn load(found: Addressed, memory: &[u8], reads: &mut [u8], writes: &[u8]) -> Operands
-    requires { Ready memory reads writes }
-    ensures { Performs (loaded found) memory reads writes result }
+    requires { Ready memory.now reads.old writes.now }
+    ensures { Performs (loaded found) (shared memory) (lent reads) (shared writes) result }
 {
     let low = memory::read(memory, reads, writes, found.at);
     let cpu = found.cpu;
@@ -43,8 +44,8 @@ pub fn load(found: Addressed, memory: &[u8], reads: &mut [u8], writes: &[u8]) ->
 
 // Either, by the opcode: where A, X and Y are loaded and stored, the stores are the opcodes whose top three bits are 6.
 pub fn place(found: Addressed, memory: &[u8], reads: &mut [u8], writes: &[u8], op: u8) -> Operands
-    requires { Ready memory reads writes }
-    ensures { Performs (placed op found) memory reads writes result }
+    requires { Ready memory.now reads.old writes.now }
+    ensures { Performs (placed op found) (shared memory) (lent reads) (shared writes) result }
 {
     if op / 32 == 6 {
         return aim(found);
@@ -54,8 +55,8 @@ pub fn place(found: Addressed, memory: &[u8], reads: &mut [u8], writes: &[u8], o
 
 // d
 pub fn d(cpu: Processor, memory: &[u8], reads: &mut [u8], writes: &[u8], op: u8) -> Operands
-    requires { Ready memory reads writes }
-    ensures { Performs (then (mode.direct 0 cpu) (placed op)) memory reads writes result }
+    requires { Ready memory.now reads.old writes.now }
+    ensures { Performs (then (mode.direct 0 cpu) (placed op)) (shared memory) (lent reads) (shared writes) result }
 {
     let found = modes::d(cpu, memory, reads, writes);
     place(found, memory, reads, writes, op)
@@ -63,8 +64,8 @@ pub fn d(cpu: Processor, memory: &[u8], reads: &mut [u8], writes: &[u8], op: u8)
 
 // d+X
 pub fn dx(cpu: Processor, memory: &[u8], reads: &mut [u8], writes: &[u8], op: u8) -> Operands
-    requires { Ready memory reads writes }
-    ensures { Performs (then (mode.direct cpu.x cpu) (placed op)) memory reads writes result }
+    requires { Ready memory.now reads.old writes.now }
+    ensures { Performs (then (mode.direct cpu.x cpu) (placed op)) (shared memory) (lent reads) (shared writes) result }
 {
     let found = modes::dx(cpu, memory, reads, writes);
     place(found, memory, reads, writes, op)
@@ -72,8 +73,8 @@ pub fn dx(cpu: Processor, memory: &[u8], reads: &mut [u8], writes: &[u8], op: u8
 
 // d+Y
 pub fn dy(cpu: Processor, memory: &[u8], reads: &mut [u8], writes: &[u8], op: u8) -> Operands
-    requires { Ready memory reads writes }
-    ensures { Performs (then (mode.direct cpu.y cpu) (placed op)) memory reads writes result }
+    requires { Ready memory.now reads.old writes.now }
+    ensures { Performs (then (mode.direct cpu.y cpu) (placed op)) (shared memory) (lent reads) (shared writes) result }
 {
     let found = modes::dy(cpu, memory, reads, writes);
     place(found, memory, reads, writes, op)
@@ -81,8 +82,8 @@ pub fn dy(cpu: Processor, memory: &[u8], reads: &mut [u8], writes: &[u8], op: u8
 
 // !a
 pub fn abs(cpu: Processor, memory: &[u8], reads: &mut [u8], writes: &[u8], op: u8) -> Operands
-    requires { Ready memory reads writes }
-    ensures { Performs (then (mode.absolute 0 cpu) (placed op)) memory reads writes result }
+    requires { Ready memory.now reads.old writes.now }
+    ensures { Performs (then (mode.absolute 0 cpu) (placed op)) (shared memory) (lent reads) (shared writes) result }
 {
     let found = modes::abs(cpu, memory, reads, writes);
     place(found, memory, reads, writes, op)
@@ -90,8 +91,8 @@ pub fn abs(cpu: Processor, memory: &[u8], reads: &mut [u8], writes: &[u8], op: u
 
 // !a+X
 pub fn absx(cpu: Processor, memory: &[u8], reads: &mut [u8], writes: &[u8], op: u8) -> Operands
-    requires { Ready memory reads writes }
-    ensures { Performs (then (mode.absolute cpu.x cpu) (placed op)) memory reads writes result }
+    requires { Ready memory.now reads.old writes.now }
+    ensures { Performs (then (mode.absolute cpu.x cpu) (placed op)) (shared memory) (lent reads) (shared writes) result }
 {
     let found = modes::absx(cpu, memory, reads, writes);
     place(found, memory, reads, writes, op)
@@ -99,8 +100,8 @@ pub fn absx(cpu: Processor, memory: &[u8], reads: &mut [u8], writes: &[u8], op: 
 
 // !a+Y
 pub fn absy(cpu: Processor, memory: &[u8], reads: &mut [u8], writes: &[u8], op: u8) -> Operands
-    requires { Ready memory reads writes }
-    ensures { Performs (then (mode.absolute cpu.y cpu) (placed op)) memory reads writes result }
+    requires { Ready memory.now reads.old writes.now }
+    ensures { Performs (then (mode.absolute cpu.y cpu) (placed op)) (shared memory) (lent reads) (shared writes) result }
 {
     let found = modes::absy(cpu, memory, reads, writes);
     place(found, memory, reads, writes, op)
@@ -115,8 +116,8 @@ pub fn idx(
     writes: &[u8],
     op: u8,
 ) -> Operands
-    requires { Ready memory reads writes }
-    ensures { Performs (then (mode.pointer_x edition cpu) (placed op)) memory reads writes result }
+    requires { Ready memory.now reads.old writes.now }
+    ensures { Performs (then (mode.pointer_x edition cpu) (placed op)) (shared memory) (lent reads) (shared writes) result }
 {
     let found = modes::idx(cpu, edition, memory, reads, writes);
     place(found, memory, reads, writes, op)
@@ -131,8 +132,8 @@ pub fn idy(
     writes: &[u8],
     op: u8,
 ) -> Operands
-    requires { Ready memory reads writes }
-    ensures { Performs (then (mode.pointer_y edition cpu) (placed op)) memory reads writes result }
+    requires { Ready memory.now reads.old writes.now }
+    ensures { Performs (then (mode.pointer_y edition cpu) (placed op)) (shared memory) (lent reads) (shared writes) result }
 {
     let found = modes::idy(cpu, edition, memory, reads, writes);
     place(found, memory, reads, writes, op)

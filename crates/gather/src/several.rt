@@ -1,5 +1,6 @@
 // Modes that read more than one thing.
 ghost use Rattle.std.specs.Prelude.{◌^◌, ◌≤◌, ◌≡◌};
+ghost use Rattle.laws.specs.Lent.{shared, lent};
 ghost use Rattle.memory.specs.Contracts.{Ready, Performs};
 ghost use Rattle.instructions.specs.Rows.Mode.{direct_direct, direct_to_direct, direct_immediate, immediate_to_direct, at_x_at_y, direct_word, to_direct_word, memory_bit};
 ghost use Rattle.instructions.specs.Gather.{both_loaded, source_loaded};
@@ -17,8 +18,8 @@ fn load_both(
     writes: &[u8],
     source: u16,
 ) -> Operands
-    requires { Ready memory reads writes }
-    ensures { Performs (both_loaded source found) memory reads writes result }
+    requires { Ready memory.now reads.old writes.now }
+    ensures { Performs (both_loaded source found) (shared memory) (lent reads) (shared writes) result }
 {
     let low = memory::read(memory, reads, writes, source);
     let high = memory::read(memory, reads, writes, found.at);
@@ -40,8 +41,8 @@ fn load_source(
     writes: &[u8],
     source: u16,
 ) -> Operands
-    requires { Ready memory reads writes }
-    ensures { Performs (source_loaded source found) memory reads writes result }
+    requires { Ready memory.now reads.old writes.now }
+    ensures { Performs (source_loaded source found) (shared memory) (lent reads) (shared writes) result }
 {
     let low = memory::read(memory, reads, writes, source);
     let cpu = found.cpu;
@@ -56,8 +57,8 @@ fn load_source(
 
 // d,d: the source's operand byte comes first.
 pub fn direct_direct(cpu: Processor, memory: &[u8], reads: &mut [u8], writes: &[u8]) -> Operands
-    requires { Ready memory reads writes }
-    ensures { Performs (plainly direct_direct cpu) memory reads writes result }
+    requires { Ready memory.now reads.old writes.now }
+    ensures { Performs (plainly direct_direct cpu) (shared memory) (lent reads) (shared writes) result }
 {
     let source = modes::d(cpu, memory, reads, writes);
     let next = source.cpu;
@@ -67,8 +68,8 @@ pub fn direct_direct(cpu: Processor, memory: &[u8], reads: &mut [u8], writes: &[
 
 // d,d for MOV, which does not read its target.
 pub fn direct_to_direct(cpu: Processor, memory: &[u8], reads: &mut [u8], writes: &[u8]) -> Operands
-    requires { Ready memory reads writes }
-    ensures { Performs (plainly direct_to_direct cpu) memory reads writes result }
+    requires { Ready memory.now reads.old writes.now }
+    ensures { Performs (plainly direct_to_direct cpu) (shared memory) (lent reads) (shared writes) result }
 {
     let source = modes::d(cpu, memory, reads, writes);
     let next = source.cpu;
@@ -78,8 +79,8 @@ pub fn direct_to_direct(cpu: Processor, memory: &[u8], reads: &mut [u8], writes:
 
 // d,#i: the immediate comes first.
 pub fn direct_immediate(cpu: Processor, memory: &[u8], reads: &mut [u8], writes: &[u8]) -> Operands
-    requires { Ready memory reads writes }
-    ensures { Performs (plainly direct_immediate cpu) memory reads writes result }
+    requires { Ready memory.now reads.old writes.now }
+    ensures { Performs (plainly direct_immediate cpu) (shared memory) (lent reads) (shared writes) result }
 {
     let immediate = modes::fetch_u8(cpu, memory, reads, writes);
     let next = immediate.cpu;
@@ -102,8 +103,8 @@ pub fn immediate_to_direct(
     reads: &mut [u8],
     writes: &[u8],
 ) -> Operands
-    requires { Ready memory reads writes }
-    ensures { Performs (plainly immediate_to_direct cpu) memory reads writes result }
+    requires { Ready memory.now reads.old writes.now }
+    ensures { Performs (plainly immediate_to_direct cpu) (shared memory) (lent reads) (shared writes) result }
 {
     let immediate = modes::fetch_u8(cpu, memory, reads, writes);
     let next = immediate.cpu;
@@ -120,8 +121,8 @@ pub fn immediate_to_direct(
 
 // (X),(Y): (Y) is the source.
 pub fn at_x_at_y(cpu: Processor, memory: &[u8], reads: &mut [u8], writes: &[u8]) -> Operands
-    requires { Ready memory reads writes }
-    ensures { Performs (plainly at_x_at_y cpu) memory reads writes result }
+    requires { Ready memory.now reads.old writes.now }
+    ensures { Performs (plainly at_x_at_y cpu) (shared memory) (lent reads) (shared writes) result }
 {
     let source = modes::iy(cpu);
     load_both(modes::ix(cpu), memory, reads, writes, source.at)
@@ -129,8 +130,8 @@ pub fn at_x_at_y(cpu: Processor, memory: &[u8], reads: &mut [u8], writes: &[u8])
 
 // A word of the direct page.
 pub fn direct_word(cpu: Processor, memory: &[u8], reads: &mut [u8], writes: &[u8]) -> Operands
-    requires { Ready memory reads writes }
-    ensures { Performs (plainly direct_word cpu) memory reads writes result }
+    requires { Ready memory.now reads.old writes.now }
+    ensures { Performs (plainly direct_word cpu) (shared memory) (lent reads) (shared writes) result }
 {
     let found = modes::dw(cpu, memory, reads, writes);
     let low = memory::read(memory, reads, writes, found.low);
@@ -147,8 +148,8 @@ pub fn direct_word(cpu: Processor, memory: &[u8], reads: &mut [u8], writes: &[u8
 
 // The place of a word of the direct page.
 pub fn to_direct_word(cpu: Processor, memory: &[u8], reads: &mut [u8], writes: &[u8]) -> Operands
-    requires { Ready memory reads writes }
-    ensures { Performs (plainly to_direct_word cpu) memory reads writes result }
+    requires { Ready memory.now reads.old writes.now }
+    ensures { Performs (plainly to_direct_word cpu) (shared memory) (lent reads) (shared writes) result }
 {
     let found = modes::dw(cpu, memory, reads, writes);
     let after = found.cpu;
@@ -171,8 +172,8 @@ fn bit_value(bit: u8) -> u8
 
 // A byte and one of its bits, by its value.
 pub fn memory_bit(cpu: Processor, memory: &[u8], reads: &mut [u8], writes: &[u8]) -> Operands
-    requires { Ready memory reads writes }
-    ensures { Performs (plainly memory_bit cpu) memory reads writes result }
+    requires { Ready memory.now reads.old writes.now }
+    ensures { Performs (plainly memory_bit cpu) (shared memory) (lent reads) (shared writes) result }
 {
     let found = modes::bit_operand(cpu, memory, reads, writes);
     let low = memory::read(memory, reads, writes, found.at);

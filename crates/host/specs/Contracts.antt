@@ -1,6 +1,6 @@
 -- The contracts on the five lent slices of a playing, in the order of every function's parameters.
-use Rattle.std.specs.Prelude.{◌≡◌, length}
-use Rattle.laws.specs.Lent.{Slice, Lent}
+use Rattle.std.specs.Prelude.{◌≡◌, length, ℕ, List}
+use Rattle.laws.specs.Lent.{Lent}
 use Rattle.memory.specs.Contracts as lent
 use Rattle.host.specs.Turn.{Playing}
 use Rattle.host.specs.Play.{Progress, progress}
@@ -10,25 +10,25 @@ use Rattle.host.specs.declared.Played.{Played}
 use Rattle.host.specs.declared.beside.Beside.{Beside}
 
 -- Memory and maps of the right lengths, the sound chip's row, and its map.
-abbrev pub Set : Slice → Slice → Slice → Slice → Slice → Type 0
+abbrev pub Set : List ℕ → List ℕ → List ℕ → List ℕ → List ℕ → Type 0
 Set memory reads writes chip fetched =
-    lent.Ready memory reads writes × (length chip.now ≡ 512) × (length fetched.now ≡ 8192)
+    lent.Ready memory reads writes × (length chip ≡ 512) × (length fetched ≡ 8192)
 
 -- a playing before a call, and after it
 abbrev pub before : Player → Lent → Lent → Lent → Lent → Lent → Playing
 before player memory reads writes chip fetched = record {
   player = player;
   world = lent.before memory reads writes;
-  chip = chip.entry.now;
-  fetched = fetched.entry.now;
+  chip = chip.entry;
+  fetched = fetched.entry;
 }
 
 abbrev pub after : Player → Lent → Lent → Lent → Lent → Lent → Playing
 after player memory reads writes chip fetched = record {
   player = player;
   world = lent.after memory reads writes;
-  chip = chip.exit.now;
-  fetched = fetched.exit.now;
+  chip = chip.exit;
+  fetched = fetched.exit;
 }
 
 -- with what a call answers

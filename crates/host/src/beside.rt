@@ -1,5 +1,6 @@
 // Two images played side by side, step by step, as long as they are alike.
 ghost use Rattle.std.specs.Prelude.{◌≤◌, ◌≡◌, true, length};
+ghost use Rattle.laws.specs.Lent.{lent};
 ghost use Rattle.editions.specs.Editions.{is_edition, edition_of};
 ghost use Rattle.host.specs.Beside.{same_registers, same_stores, alike, beside_of};
 ghost use Rattle.host.specs.Contracts.{Set, before, after_beside};
@@ -88,11 +89,11 @@ pub fn play_both(
     chip2: &mut [u8],
     fetched2: &mut [u8],
 ) -> Beside
-    requires set { Set memory reads writes chip fetched × Set memory2 reads2 writes2 chip2 fetched2 }
+    requires set { Set memory.old reads.old writes.old chip.old fetched.old × Set memory2.old reads2.old writes2.old chip2.old fetched2.old }
     requires edition_value { (is_edition edition ≡ true) × (until ≤ 4294967280) }
-    ensures { after_beside result memory reads writes chip fetched memory2 reads2 writes2 chip2 fetched2
-        ≡ beside_of (edition_of edition) until budget (before first memory reads writes chip fetched)
-        (before second memory2 reads2 writes2 chip2 fetched2) }
+    ensures { after_beside result (lent memory) (lent reads) (lent writes) (lent chip) (lent fetched) (lent memory2) (lent reads2) (lent writes2) (lent chip2) (lent fetched2)
+        ≡ beside_of (edition_of edition) until budget (before first (lent memory) (lent reads) (lent writes) (lent chip) (lent fetched))
+        (before second (lent memory2) (lent reads2) (lent writes2) (lent chip2) (lent fetched2)) }
 {
     let mut a = first;
     let mut b = second;

@@ -32,7 +32,7 @@ fn note_keyed(bits: u8, chip: &mut [u8])
 
 // A step has stored to 00F3: that goes to the register that 00F2 names, unless its bit 7 is set. A store to 4C keys voices on.
 pub fn store(memory: &[u8], writes: &[u8], chip: &mut [u8], fetched: &mut [u8])
-    requires { (length chip.old ≡ 512) × Fetching memory writes fetched }
+    requires { (length chip.old ≡ 512) × Fetching memory.now writes.now fetched.old }
     ensures { sound chip.new fetched.new
         ≡ stored_to memory.now writes.now chip.old fetched.old }
 {

@@ -6,6 +6,7 @@ mod beside;
 mod chip;
 
 ghost use Rattle.std.specs.Prelude.{◌≤◌, ◌≡◌, true, length};
+ghost use Rattle.laws.specs.Lent.{lent};
 ghost use Rattle.memory.specs.Contracts.{Ready, Yields};
 ghost use Rattle.editions.specs.Editions.{is_edition, edition_of};
 ghost use Rattle.host.specs.Turn.{laid_out, step_on, noted, turn_of};
@@ -58,8 +59,8 @@ fn step(
     reads: &mut [u8],
     writes: &mut [u8],
 ) -> Stepped
-    requires { Ready memory reads writes × (is_edition edition ≡ true) }
-    ensures { Yields (step_on (edition_of edition) cpu) memory reads writes result }
+    requires { Ready memory.old reads.old writes.old × (is_edition edition ≡ true) }
+    ensures { Yields (step_on (edition_of edition) cpu) (lent memory) (lent reads) (lent writes) result }
 {
     if memory[0xF1] >= 128 {
         return boot_rom::step(cpu, edition, memory, reads, writes);
@@ -93,9 +94,9 @@ fn turn(
     chip: &mut [u8],
     fetched: &mut [u8],
 ) -> Player
-    requires { Set memory reads writes chip fetched × (is_edition edition ≡ true) × (player.devices.cycles ≤ 4294967280) }
-    ensures { after result memory reads writes chip fetched
-        ≡ turn_of (edition_of edition) (before player memory reads writes chip fetched) }
+    requires { Set memory.old reads.old writes.old chip.old fetched.old × (is_edition edition ≡ true) × (player.devices.cycles ≤ 4294967280) }
+    ensures { after result (lent memory) (lent reads) (lent writes) (lent chip) (lent fetched)
+        ≡ turn_of (edition_of edition) (before player (lent memory) (lent reads) (lent writes) (lent chip) (lent fetched)) }
 {
     let cpu = player.cpu;
     let devices = player.devices;
@@ -141,9 +142,9 @@ pub fn play(
     chip: &mut [u8],
     fetched: &mut [u8],
 ) -> Played
-    requires { Set memory reads writes chip fetched × (is_edition edition ≡ true) × (until ≤ 4294967280) }
-    ensures { after_play result memory reads writes chip fetched
-        ≡ play_of (edition_of edition) until budget (before player memory reads writes chip fetched) }
+    requires { Set memory.old reads.old writes.old chip.old fetched.old × (is_edition edition ≡ true) × (until ≤ 4294967280) }
+    ensures { after_play result (lent memory) (lent reads) (lent writes) (lent chip) (lent fetched)
+        ≡ play_of (edition_of edition) until budget (before player (lent memory) (lent reads) (lent writes) (lent chip) (lent fetched)) }
 {
     let mut next = player;
     let mut left: u32 = budget;
@@ -170,10 +171,10 @@ fn take_turn(
     chip: &mut [u8],
     fetched: &mut [u8],
 ) -> Player
-    requires set { Set memory reads writes chip fetched × (is_edition edition ≡ true) × (until ≤ 4294967280) }
+    requires set { Set memory.old reads.old writes.old chip.old fetched.old × (is_edition edition ≡ true) × (until ≤ 4294967280) }
     requires player_value { goes_on until player ≡ true }
-    ensures { after result memory reads writes chip fetched
-        ≡ turn_of (edition_of edition) (before player memory reads writes chip fetched) }
+    ensures { after result (lent memory) (lent reads) (lent writes) (lent chip) (lent fetched)
+        ≡ turn_of (edition_of edition) (before player (lent memory) (lent reads) (lent writes) (lent chip) (lent fetched)) }
 {
     let played = play(
         player, edition, until, 1, memory, reads, writes, chip, fetched,

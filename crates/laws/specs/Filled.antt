@@ -12,4 +12,4 @@ filled answer left = record { answer = answer; left = left }
 
 -- It answers and leaves what `call` makes of what the slice held before.
 abbrev pub Fills : {R : Type 0} → (List ℕ → Filled R) → Lent → R → Type 0
-Fills call slice r = filled r slice.exit.now ≡ call slice.entry.now
+Fills call slice r = filled r slice.exit ≡ call slice.entry

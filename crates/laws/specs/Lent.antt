@@ -1,12 +1,16 @@
--- What a contract calls a lent slice: `now` gives the numbers that it holds.
+-- What a contract calls a lent slice: the numbers that it holds as a call finds it, and as the call leaves it.
 use Rattle.std.specs.Prelude.{ℕ, List}
-use Rattle.std.specs.Borrow.{Bor}
+use denote.Ref.{Bor, MutBor}
 use denote.Triple.Both.{Both}
 
--- in a `requires`: the slice as the call finds it
-abbrev pub Slice : Type 0
-Slice = Bor (List ℕ)
+pub record Lent : Type 0 where
+  pub entry : List ℕ
+  pub exit : List ℕ
 
--- in an `ensures`: `entry` as the call finds it, `exit` as the call leaves it; behind `&` nothing changes, and the two are the same
-abbrev pub Lent : Type 0
-Lent = Both Slice Slice
+-- behind `&`, where nothing changes
+abbrev pub shared : Both (Bor (List ℕ)) (Bor (List ℕ)) → Lent
+shared slice = record { entry = slice.entry.now; exit = slice.exit.now }
+
+-- behind `&mut`
+abbrev pub lent : Both (MutBor (List ℕ)) (MutBor (List ℕ)) → Lent
+lent slice = record { entry = slice.entry.now; exit = slice.exit.now }

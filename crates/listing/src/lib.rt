@@ -4,6 +4,7 @@
 mod program;
 
 ghost use Rattle.std.specs.Prelude.{◌≡◌, ◌+◌, ◌≤◌, length};
+ghost use Rattle.laws.specs.Lent.{lent};
 ghost use Rattle.text.specs.Given.{Gives};
 ghost use Rattle.text.specs.Line.{adds};
 ghost use Rattle.opcode_data.specs.Lists.{list_of};
@@ -98,7 +99,7 @@ fn on_line(line: Line, opcode: u8, operands: &[u8]) -> Line
 // Gives one instruction's text, from its bytes, into a lent buffer. Refusals: 4 fewer bytes than the instruction has, 3 a buffer
 // that is too short.
 pub fn instruction(code: &[u8], buffer: &mut [u8]) -> Written
-    ensures { Gives (listed_of code.now) buffer result }
+    ensures { Gives (listed_of code.now) (lent buffer) result }
 {
     if code.len() == 0 {
         return Written {

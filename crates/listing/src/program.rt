@@ -1,5 +1,6 @@
 // The listing program's whole answer to an input.
 ghost use Rattle.std.specs.Prelude.{◌≡◌, ◌<◌, ◌≤◌, length, drop};
+ghost use Rattle.laws.specs.Lent.{lent};
 ghost use Rattle.text.specs.Given.{Gives, laid_into, says};
 ghost use Rattle.text.specs.Line.{blank, adds};
 ghost use Rattle.listing.specs.Session.{turn_text, turn_bytes, lines_of, refused_input, session_of};
@@ -75,7 +76,7 @@ fn write(code: &[u8], start: u16, out: &mut [u8])
 // Gives what the listing program prints for an input into a lent buffer: the lines of its code, or `refused 6` where the input is
 // not a start address and 0 to 4,096 code bytes. Refusal 3 where the buffer is too short for that.
 pub fn session(input: &[u8], out: &mut [u8]) -> Written
-    ensures { Gives (says (session_of input.now)) out result }
+    ensures { Gives (says (session_of input.now)) (lent out) result }
 {
     if input.len() < 2 {
         return refuse_input(out);
@@ -101,7 +102,7 @@ pub fn session(input: &[u8], out: &mut [u8]) -> Written
 
 // Gives the line that answers an input of a wrong length.
 fn refuse_input(out: &mut [u8]) -> Written
-    ensures { Gives (says refused_input) out result }
+    ensures { Gives (says refused_input) (lent out) result }
 {
     Line::new().text(b"refused 6\n").give(out)
 }

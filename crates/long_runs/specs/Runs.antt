@@ -16,8 +16,8 @@ use Rattle.long_runs.specs.declared.Taken.{Taken}
 -- On flat registers and cells: what these stand for in the end is the run of what they stood for.
 abbrev pub Ends : Edition → ℕ → Registers → Lent → Ended → Type 0
 Ends edition budget start cells r =
-    outcome (progress (record_of r.cpu) r.steps) (world_of cells.exit.now)
-    ≡ run_of edition budget (record_of start) (world_of cells.entry.now)
+    outcome (progress (record_of r.cpu) r.steps) (world_of cells.exit)
+    ≡ run_of edition budget (record_of start) (world_of cells.entry)
 
 -- On the record, memory and maps: the record that the run leaves and its steps, and what it leaves in memory and maps.
 abbrev pub taken_of : Outcome World (Progress Processor) → Outcome World Taken

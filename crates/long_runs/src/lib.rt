@@ -1,6 +1,7 @@
 // Long runs: the steps of a run on flat registers and one row of cells.
 #![tactic(auto)]
 
+ghost use Rattle.laws.specs.Lent.{lent};
 ghost use Rattle.memory.specs.Contracts.{Ready, Yields};
 ghost use Rattle.instructions.specs.Step.{step_of};
 ghost use Rattle.instructions.specs.Runs.{run_of};
@@ -28,8 +29,8 @@ pub struct Ended {
 
 // One instruction: the opcode at PC, and what the row of its column does.
 fn instruction(cpu: Registers, edition: Edition, cells: &mut [u16]) -> Registers
-    requires { Laid cells }
-    ensures { Performs (step_of edition (record_of cpu)) cells (record_of result) }
+    requires { Laid cells.old }
+    ensures { Performs (step_of edition (record_of cpu)) (lent cells) (record_of result) }
 {
     let opcode = operands::fetch(cpu, cells);
     let behind = cpu.past();
@@ -71,8 +72,8 @@ fn instruction(cpu: Registers, edition: Edition, cells: &mut [u16]) -> Registers
 
 // Steps while budget is left and the record is awake.
 fn take_steps(start: Registers, edition: Edition, cells: &mut [u16], budget: u32) -> Ended
-    requires { Laid cells }
-    ensures { Ends edition budget start cells result }
+    requires { Laid cells.old }
+    ensures { Ends edition budget start (lent cells) result }
 {
     let mut next = start;
     let mut left = budget;
@@ -111,8 +112,8 @@ pub fn run(
     writes: &mut [u8],
     budget: u32,
 ) -> Taken
-    requires { Ready memory reads writes }
-    ensures { Yields (λ w. taken_of (run_of edition budget cpu w)) memory reads writes result }
+    requires { Ready memory.old reads.old writes.old }
+    ensures { Yields (λ w. taken_of (run_of edition budget cpu w)) (lent memory) (lent reads) (lent writes) result }
 {
     let mut row = [0u16; 65536];
     cells::lay_out(&mut row, memory, reads, writes);

@@ -1,5 +1,6 @@
 // Address modes.
 ghost use Rattle.std.specs.Prelude.{◌≡◌, ◌^◌, ◌≤◌};
+ghost use Rattle.laws.specs.Lent.{shared, lent};
 ghost use Rattle.memory.specs.Contracts.{Ready, Performs};
 ghost use Rattle.modes.specs.Addresses.{direct_at, onward};
 ghost use Rattle.modes.specs.Modes.{fetch, fetch_word, immediate, direct, direct_word, indirect, pointed, pointer_x, pointer_y, absolute, absolute_pointer, bit_operand, bit_read};
@@ -28,8 +29,8 @@ fn page(psw: ProgramStatusWord, byte: u8, index: u8) -> u16
 
 // The byte at PC, with PC behind it. Every opcode, operand and displacement byte is read here.
 pub fn fetch_u8(cpu: Processor, memory: &[u8], reads: &mut [u8], writes: &[u8]) -> Produced
-    requires { Ready memory reads writes }
-    ensures { Performs (fetch cpu) memory reads writes result }
+    requires { Ready memory.now reads.old writes.now }
+    ensures { Performs (fetch cpu) (shared memory) (lent reads) (shared writes) result }
 {
     let byte = memory::read(memory, reads, writes, cpu.pc);
     Produced {
@@ -40,8 +41,8 @@ pub fn fetch_u8(cpu: Processor, memory: &[u8], reads: &mut [u8], writes: &[u8]) 
 
 // The word at PC, low byte first, with PC behind it.
 pub fn fetch_u16(cpu: Processor, memory: &[u8], reads: &mut [u8], writes: &[u8]) -> Addressed
-    requires { Ready memory reads writes }
-    ensures { Performs (fetch_word cpu) memory reads writes result }
+    requires { Ready memory.now reads.old writes.now }
+    ensures { Performs (fetch_word cpu) (shared memory) (lent reads) (shared writes) result }
 {
     let low = fetch_u8(cpu, memory, reads, writes);
     let next = low.cpu;
@@ -63,8 +64,8 @@ pub fn imm(cpu: Processor) -> Addressed
 
 // d plus an index.
 pub fn d_off(cpu: Processor, memory: &[u8], reads: &mut [u8], writes: &[u8], index: u8) -> Addressed
-    requires { Ready memory reads writes }
-    ensures { Performs (direct index cpu) memory reads writes result }
+    requires { Ready memory.now reads.old writes.now }
+    ensures { Performs (direct index cpu) (shared memory) (lent reads) (shared writes) result }
 {
     let operand = fetch_u8(cpu, memory, reads, writes);
     let next = operand.cpu;
@@ -77,32 +78,32 @@ pub fn d_off(cpu: Processor, memory: &[u8], reads: &mut [u8], writes: &[u8], ind
 
 // d
 pub fn d(cpu: Processor, memory: &[u8], reads: &mut [u8], writes: &[u8]) -> Addressed
-    requires { Ready memory reads writes }
-    ensures { Performs (direct 0 cpu) memory reads writes result }
+    requires { Ready memory.now reads.old writes.now }
+    ensures { Performs (direct 0 cpu) (shared memory) (lent reads) (shared writes) result }
 {
     d_off(cpu, memory, reads, writes, 0)
 }
 
 // d+X
 pub fn dx(cpu: Processor, memory: &[u8], reads: &mut [u8], writes: &[u8]) -> Addressed
-    requires { Ready memory reads writes }
-    ensures { Performs (direct cpu.x cpu) memory reads writes result }
+    requires { Ready memory.now reads.old writes.now }
+    ensures { Performs (direct cpu.x cpu) (shared memory) (lent reads) (shared writes) result }
 {
     d_off(cpu, memory, reads, writes, cpu.x)
 }
 
 // d+Y
 pub fn dy(cpu: Processor, memory: &[u8], reads: &mut [u8], writes: &[u8]) -> Addressed
-    requires { Ready memory reads writes }
-    ensures { Performs (direct cpu.y cpu) memory reads writes result }
+    requires { Ready memory.now reads.old writes.now }
+    ensures { Performs (direct cpu.y cpu) (shared memory) (lent reads) (shared writes) result }
 {
     d_off(cpu, memory, reads, writes, cpu.y)
 }
 
 // d as a word: the addresses of its low and its high byte, both in the direct page.
 pub fn dw(cpu: Processor, memory: &[u8], reads: &mut [u8], writes: &[u8]) -> WordAddressed
-    requires { Ready memory reads writes }
-    ensures { Performs (direct_word cpu) memory reads writes result }
+    requires { Ready memory.now reads.old writes.now }
+    ensures { Performs (direct_word cpu) (shared memory) (lent reads) (shared writes) result }
 {
     let operand = fetch_u8(cpu, memory, reads, writes);
     let next = operand.cpu;
@@ -145,8 +146,8 @@ fn pointer(
     writes: &[u8],
     index: u8,
 ) -> Addressed
-    requires { Ready memory reads writes }
-    ensures { Performs (pointed edition index d) memory reads writes result }
+    requires { Ready memory.now reads.old writes.now }
+    ensures { Performs (pointed edition index d) (shared memory) (lent reads) (shared writes) result }
 {
     let low = memory::read(memory, reads, writes, d.at);
     let second = editions::second_at(edition, d.at);
@@ -167,8 +168,8 @@ pub fn idx(
     reads: &mut [u8],
     writes: &[u8],
 ) -> Addressed
-    requires { Ready memory reads writes }
-    ensures { Performs (pointer_x edition cpu) memory reads writes result }
+    requires { Ready memory.now reads.old writes.now }
+    ensures { Performs (pointer_x edition cpu) (shared memory) (lent reads) (shared writes) result }
 {
     let at = dx(cpu, memory, reads, writes);
     pointer(at, edition, memory, reads, writes, 0)
@@ -182,8 +183,8 @@ pub fn idy(
     reads: &mut [u8],
     writes: &[u8],
 ) -> Addressed
-    requires { Ready memory reads writes }
-    ensures { Performs (pointer_y edition cpu) memory reads writes result }
+    requires { Ready memory.now reads.old writes.now }
+    ensures { Performs (pointer_y edition cpu) (shared memory) (lent reads) (shared writes) result }
 {
     let at = d(cpu, memory, reads, writes);
     pointer(at, edition, memory, reads, writes, cpu.y)
@@ -197,8 +198,8 @@ pub fn abs_off(
     writes: &[u8],
     index: u8,
 ) -> Addressed
-    requires { Ready memory reads writes }
-    ensures { Performs (absolute index cpu) memory reads writes result }
+    requires { Ready memory.now reads.old writes.now }
+    ensures { Performs (absolute index cpu) (shared memory) (lent reads) (shared writes) result }
 {
     let operand = fetch_u16(cpu, memory, reads, writes);
     let next = operand.cpu;
@@ -210,32 +211,32 @@ pub fn abs_off(
 
 // !a
 pub fn abs(cpu: Processor, memory: &[u8], reads: &mut [u8], writes: &[u8]) -> Addressed
-    requires { Ready memory reads writes }
-    ensures { Performs (absolute 0 cpu) memory reads writes result }
+    requires { Ready memory.now reads.old writes.now }
+    ensures { Performs (absolute 0 cpu) (shared memory) (lent reads) (shared writes) result }
 {
     abs_off(cpu, memory, reads, writes, 0)
 }
 
 // !a+X
 pub fn absx(cpu: Processor, memory: &[u8], reads: &mut [u8], writes: &[u8]) -> Addressed
-    requires { Ready memory reads writes }
-    ensures { Performs (absolute cpu.x cpu) memory reads writes result }
+    requires { Ready memory.now reads.old writes.now }
+    ensures { Performs (absolute cpu.x cpu) (shared memory) (lent reads) (shared writes) result }
 {
     abs_off(cpu, memory, reads, writes, cpu.x)
 }
 
 // !a+Y
 pub fn absy(cpu: Processor, memory: &[u8], reads: &mut [u8], writes: &[u8]) -> Addressed
-    requires { Ready memory reads writes }
-    ensures { Performs (absolute cpu.y cpu) memory reads writes result }
+    requires { Ready memory.now reads.old writes.now }
+    ensures { Performs (absolute cpu.y cpu) (shared memory) (lent reads) (shared writes) result }
 {
     abs_off(cpu, memory, reads, writes, cpu.y)
 }
 
 // [!a+X]: the word there, whatever the edition.
 pub fn iax(cpu: Processor, memory: &[u8], reads: &mut [u8], writes: &[u8]) -> Addressed
-    requires { Ready memory reads writes }
-    ensures { Performs (absolute_pointer cpu) memory reads writes result }
+    requires { Ready memory.now reads.old writes.now }
+    ensures { Performs (absolute_pointer cpu) (shared memory) (lent reads) (shared writes) result }
 {
     let operand = absx(cpu, memory, reads, writes);
     let next = operand.cpu;
@@ -245,8 +246,8 @@ pub fn iax(cpu: Processor, memory: &[u8], reads: &mut [u8], writes: &[u8]) -> Ad
 
 // Mb: the address of a byte and the number of a bit.
 pub fn bit_operand(cpu: Processor, memory: &[u8], reads: &mut [u8], writes: &[u8]) -> BitAddressed
-    requires { Ready memory reads writes }
-    ensures { Performs (bit_operand cpu) memory reads writes result }
+    requires { Ready memory.now reads.old writes.now }
+    ensures { Performs (bit_operand cpu) (shared memory) (lent reads) (shared writes) result }
 {
     let operand = fetch_u16(cpu, memory, reads, writes);
     let next = operand.cpu;
@@ -265,8 +266,8 @@ pub fn has_bit(byte: u8, bit: u8) -> bool
 
 // The bit that Mb names.
 pub fn mb(cpu: Processor, memory: &[u8], reads: &mut [u8], writes: &[u8]) -> BitRead
-    requires { Ready memory reads writes }
-    ensures { Performs (bit_read cpu) memory reads writes result }
+    requires { Ready memory.now reads.old writes.now }
+    ensures { Performs (bit_read cpu) (shared memory) (lent reads) (shared writes) result }
 {
     let operand = bit_operand(cpu, memory, reads, writes);
     let next = operand.cpu;

@@ -1,4 +1,5 @@
 // Branches.
+ghost use Rattle.laws.specs.Lent.{shared, lent};
 ghost use Rattle.memory.specs.Contracts.{Ready, Performs};
 ghost use Rattle.modes.specs.Branches.{branched, branched_if};
 
@@ -7,8 +8,8 @@ use processor::Processor;
 
 // Reads the displacement at PC and goes where it leads.
 pub fn branch_imm(cpu: Processor, memory: &[u8], reads: &mut [u8], writes: &[u8]) -> Processor
-    requires { Ready memory reads writes }
-    ensures { Performs (branched cpu) memory reads writes result }
+    requires { Ready memory.now reads.old writes.now }
+    ensures { Performs (branched cpu) (shared memory) (lent reads) (shared writes) result }
 {
     let operand = fetch_u8(cpu, memory, reads, writes);
     let mut next = operand.cpu;
@@ -24,8 +25,8 @@ pub fn read_and_branch_if(
     writes: &[u8],
     test: bool,
 ) -> Processor
-    requires { Ready memory reads writes }
-    ensures { Performs (branched_if test cpu) memory reads writes result }
+    requires { Ready memory.now reads.old writes.now }
+    ensures { Performs (branched_if test cpu) (shared memory) (lent reads) (shared writes) result }
 {
     if test {
         return branch_imm(cpu, memory, reads, writes);

@@ -1,4 +1,5 @@
 // The stack, at 0x100 + SP.
+ghost use Rattle.laws.specs.Lent.{shared, lent};
 ghost use Rattle.memory.specs.Contracts.{Ready, Performs};
 ghost use Rattle.modes.specs.Stack.{push, push_word, pull, pull_word, called};
 
@@ -13,8 +14,8 @@ pub fn push_to_stack_u8(
     writes: &mut [u8],
     byte: u8,
 ) -> Processor
-    requires { Ready memory reads writes }
-    ensures { Performs (push byte cpu) memory reads writes result }
+    requires { Ready memory.old reads.now writes.old }
+    ensures { Performs (push byte cpu) (lent memory) (shared reads) (lent writes) result }
 {
     memory::store(memory, reads, writes, 0x100 + cpu.sp as u16, byte);
     let mut next = cpu;
@@ -30,8 +31,8 @@ pub fn push_to_stack_u16(
     writes: &mut [u8],
     word: u16,
 ) -> Processor
-    requires { Ready memory reads writes }
-    ensures { Performs (push_word word cpu) memory reads writes result }
+    requires { Ready memory.old reads.now writes.old }
+    ensures { Performs (push_word word cpu) (lent memory) (shared reads) (lent writes) result }
 {
     let next = push_to_stack_u8(cpu, memory, reads, writes, (word / 256) as u8);
     push_to_stack_u8(next, memory, reads, writes, (word % 256) as u8)
@@ -44,8 +45,8 @@ pub fn pull_from_stack_u8(
     reads: &mut [u8],
     writes: &[u8],
 ) -> Produced
-    requires { Ready memory reads writes }
-    ensures { Performs (pull cpu) memory reads writes result }
+    requires { Ready memory.now reads.old writes.now }
+    ensures { Performs (pull cpu) (shared memory) (lent reads) (shared writes) result }
 {
     let mut next = cpu;
     next.sp = std::num::wrapping_add_u8(cpu.sp, 1);
@@ -60,8 +61,8 @@ pub fn pull_from_stack_u16(
     reads: &mut [u8],
     writes: &[u8],
 ) -> Addressed
-    requires { Ready memory reads writes }
-    ensures { Performs (pull_word cpu) memory reads writes result }
+    requires { Ready memory.now reads.old writes.now }
+    ensures { Performs (pull_word cpu) (shared memory) (lent reads) (shared writes) result }
 {
     let low = pull_from_stack_u8(cpu, memory, reads, writes);
     let next = low.cpu;
@@ -79,8 +80,8 @@ pub fn call(
     writes: &mut [u8],
     target: u16,
 ) -> Processor
-    requires { Ready memory reads writes }
-    ensures { Performs (called target cpu) memory reads writes result }
+    requires { Ready memory.old reads.now writes.old }
+    ensures { Performs (called target cpu) (lent memory) (shared reads) (lent writes) result }
 {
     let mut next = push_to_stack_u16(cpu, memory, reads, writes, cpu.pc);
     next.pc = target;

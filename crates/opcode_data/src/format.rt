@@ -1,5 +1,6 @@
 // The text of a list of operands.
 ghost use Rattle.std.specs.Prelude.{◌+◌, ◌*◌, ◌≤◌, [], ◌∷◌, ◌≡◌, get_or};
+ghost use Rattle.laws.specs.Lent.{lent};
 ghost use Rattle.text.specs.Given.{Gives};
 ghost use Rattle.text.specs.Line.{adds};
 ghost use Rattle.opcode_data.specs.Lists.{list_of};
@@ -132,7 +133,7 @@ fn word(low: u8, high: u8) -> u16
 // Gives the text of a list of modes with their operand bytes into a lent buffer. Refusals: 5 a count above 3, 4 too few operand
 // bytes, 3 a buffer that is too short.
 pub fn format_address_modes(modes: Modes, values: &[u8], buffer: &mut [u8]) -> Written
-    ensures { Gives (format_of modes values.now) buffer result }
+    ensures { Gives (format_of modes values.now) (lent buffer) result }
 {
     if modes.count > 3 {
         return Written {

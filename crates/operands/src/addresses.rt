@@ -1,5 +1,6 @@
 // Address modes, and a branch.
 ghost use Rattle.std.specs.Prelude.{◌≡◌};
+ghost use Rattle.laws.specs.Lent.{lent};
 ghost use Rattle.memory.specs.Words.{read_word};
 ghost use Rattle.signed.specs.Displacement.{target_of};
 ghost use Rattle.processor.specs.Record.{produced};
@@ -26,16 +27,16 @@ pub fn direct(cpu: Registers, byte: u8, index: u8) -> u16
 
 // The byte at PC.
 pub fn fetch(cpu: Registers, cells: &mut [u16]) -> u8
-    requires { Laid cells }
-    ensures { Performs (modes.fetch (record_of cpu)) cells (produced (onward (record_of cpu)) result) }
+    requires { Laid cells.old }
+    ensures { Performs (modes.fetch (record_of cpu)) (lent cells) (produced (onward (record_of cpu)) result) }
 {
     cells::read(cells, cpu.pc)
 }
 
 // The word at an address, low byte first.
 pub fn read_u16(cells: &mut [u16], at: u16) -> u16
-    requires { Laid cells }
-    ensures { Performs (read_word at) cells result }
+    requires { Laid cells.old }
+    ensures { Performs (read_word at) (lent cells) result }
 {
     let low = cells::read(cells, at);
     let high = cells::read(cells, std::num::wrapping_add_u16(at, 1));
@@ -44,8 +45,8 @@ pub fn read_u16(cells: &mut [u16], at: u16) -> u16
 
 // d plus an index.
 pub fn d_off(cpu: Registers, cells: &mut [u16], index: u8) -> u16
-    requires { Laid cells }
-    ensures { Performs (modes.direct index (record_of cpu)) cells (addressed (onward (record_of cpu)) result) }
+    requires { Laid cells.old }
+    ensures { Performs (modes.direct index (record_of cpu)) (lent cells) (addressed (onward (record_of cpu)) result) }
 {
     let byte = fetch(cpu, cells);
     direct(cpu, byte, index)
@@ -53,8 +54,8 @@ pub fn d_off(cpu: Registers, cells: &mut [u16], index: u8) -> u16
 
 // The word at PC, low byte first.
 pub fn fetch_u16(cpu: Registers, cells: &mut [u16]) -> u16
-    requires { Laid cells }
-    ensures { Performs (modes.fetch_word (record_of cpu)) cells (addressed (onward (onward (record_of cpu))) result) }
+    requires { Laid cells.old }
+    ensures { Performs (modes.fetch_word (record_of cpu)) (lent cells) (addressed (onward (onward (record_of cpu))) result) }
 {
     let low = fetch(cpu, cells);
     let high = fetch(cpu.past(), cells);
@@ -63,8 +64,8 @@ pub fn fetch_u16(cpu: Registers, cells: &mut [u16]) -> u16
 
 // !a plus an index.
 pub fn abs_off(cpu: Registers, cells: &mut [u16], index: u8) -> u16
-    requires { Laid cells }
-    ensures { Performs (absolute index (record_of cpu)) cells (addressed (onward (onward (record_of cpu))) result) }
+    requires { Laid cells.old }
+    ensures { Performs (absolute index (record_of cpu)) (lent cells) (addressed (onward (onward (record_of cpu))) result) }
 {
     let word = fetch_u16(cpu, cells);
     std::num::wrapping_add_u16(word, index as u16)
@@ -72,8 +73,8 @@ pub fn abs_off(cpu: Registers, cells: &mut [u16], index: u8) -> u16
 
 // The pointer at an address of the direct page, plus an index. The edition says where its second byte stands.
 fn pointer(cells: &mut [u16], edition: Edition, at: u16, index: u8) -> u16
-    requires { Laid cells }
-    ensures { (cpu : Processor) → Performs (pointed edition index (addressed cpu at)) cells (addressed cpu result) }
+    requires { Laid cells.old }
+    ensures { (cpu : Processor) → Performs (pointed edition index (addressed cpu at)) (lent cells) (addressed cpu result) }
 {
     let low = cells::read(cells, at);
     let high = cells::read(cells, editions::second_at(edition, at));
@@ -82,8 +83,8 @@ fn pointer(cells: &mut [u16], edition: Edition, at: u16, index: u8) -> u16
 
 // [d+X]
 pub fn idx(cpu: Registers, edition: Edition, cells: &mut [u16]) -> u16
-    requires { Laid cells }
-    ensures { Performs (pointer_x edition (record_of cpu)) cells (addressed (onward (record_of cpu)) result) }
+    requires { Laid cells.old }
+    ensures { Performs (pointer_x edition (record_of cpu)) (lent cells) (addressed (onward (record_of cpu)) result) }
 {
     let at = d_off(cpu, cells, cpu.x);
     pointer(cells, edition, at, 0)
@@ -91,8 +92,8 @@ pub fn idx(cpu: Registers, edition: Edition, cells: &mut [u16]) -> u16
 
 // [d]+Y
 pub fn idy(cpu: Registers, edition: Edition, cells: &mut [u16]) -> u16
-    requires { Laid cells }
-    ensures { Performs (pointer_y edition (record_of cpu)) cells (addressed (onward (record_of cpu)) result) }
+    requires { Laid cells.old }
+    ensures { Performs (pointer_y edition (record_of cpu)) (lent cells) (addressed (onward (record_of cpu)) result) }
 {
     let at = d_off(cpu, cells, 0);
     pointer(cells, edition, at, cpu.y)
@@ -108,8 +109,8 @@ fn displaced(pc: u16, byte: u8) -> u16
 
 // A branch: taken, it reads the displacement at PC; else PC passes it by.
 pub fn branch(cpu: Registers, cells: &mut [u16], taken: bool) -> Registers
-    requires { Laid cells }
-    ensures { Performs (finish_of (branching taken Nothing (record_of cpu))) cells (record_of result) }
+    requires { Laid cells.old }
+    ensures { Performs (finish_of (branching taken Nothing (record_of cpu))) (lent cells) (record_of result) }
 {
     let next = cpu.past();
     if taken {

@@ -1,5 +1,6 @@
 // The stack, at 0x100 + SP.
 ghost use Rattle.std.specs.Prelude.{◌≡◌};
+ghost use Rattle.laws.specs.Lent.{lent};
 ghost use Rattle.processor.specs.Record.{produced};
 ghost use Rattle.modes.specs.Stack as stack;
 ghost use Rattle.registers.specs.Flat.{record_of};
@@ -9,8 +10,8 @@ use registers::Registers;
 
 // Stores a byte, then decreases SP.
 pub fn push(cpu: Registers, cells: &mut [u16], byte: u8) -> Registers
-    requires { Laid cells }
-    ensures { Performs (stack.push byte (record_of cpu)) cells (record_of result) }
+    requires { Laid cells.old }
+    ensures { Performs (stack.push byte (record_of cpu)) (lent cells) (record_of result) }
 {
     cells::store(cells, 0x100 + cpu.sp as u16, byte);
     cpu.with_sp(processor::difference(cpu.sp, 1))
@@ -18,8 +19,8 @@ pub fn push(cpu: Registers, cells: &mut [u16], byte: u8) -> Registers
 
 // Pushes a word, high byte first.
 pub fn push_word(cpu: Registers, cells: &mut [u16], word: u16) -> Registers
-    requires { Laid cells }
-    ensures { Performs (stack.push_word word (record_of cpu)) cells (record_of result) }
+    requires { Laid cells.old }
+    ensures { Performs (stack.push_word word (record_of cpu)) (lent cells) (record_of result) }
 {
     let next = push(cpu, cells, (word / 256) as u8);
     push(next, cells, (word % 256) as u8)
@@ -34,8 +35,8 @@ pub fn raised(cpu: Registers) -> Registers
 
 // The byte one place up the stack.
 pub fn pull(cpu: Registers, cells: &mut [u16]) -> u8
-    requires { Laid cells }
-    ensures { Performs (stack.pull (record_of cpu)) cells (produced (stack.raised (record_of cpu)) result) }
+    requires { Laid cells.old }
+    ensures { Performs (stack.pull (record_of cpu)) (lent cells) (produced (stack.raised (record_of cpu)) result) }
 {
     cells::read(cells, 0x100 + std::num::wrapping_add_u8(cpu.sp, 1) as u16)
 }

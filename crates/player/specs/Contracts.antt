@@ -1,6 +1,6 @@
 -- The contracts on the seven lent slices of a packet, in the order of every function's parameters.
 use Rattle.std.specs.Prelude.{ℕ, ◌≡◌, Bool, cond, ◌&&◌, List, eqb, length}
-use Rattle.laws.specs.Lent.{Slice, Lent}
+use Rattle.laws.specs.Lent.{Lent}
 use Rattle.memory.specs.World.{world}
 use Rattle.watch.specs.Marks.{with_marks}
 use Rattle.editions.specs.Editions.{edition_of}
@@ -19,13 +19,13 @@ packet_of head chip memory reads writes fetched made =
 -- a packet before a call, and after it
 abbrev pub before : Lent → Lent → Lent → Lent → Lent → Lent → Lent → Packet
 before head chip memory reads writes fetched made =
-    packet_of head.entry.now chip.entry.now memory.entry.now reads.entry.now writes.entry.now fetched.entry.now
-    made.entry.now
+    packet_of head.entry chip.entry memory.entry reads.entry writes.entry fetched.entry
+    made.entry
 
 abbrev pub after : Lent → Lent → Lent → Lent → Lent → Lent → Lent → Packet
 after head chip memory reads writes fetched made =
-    packet_of head.exit.now chip.exit.now memory.exit.now reads.exit.now writes.exit.now fetched.exit.now
-    made.exit.now
+    packet_of head.exit chip.exit memory.exit reads.exit writes.exit fetched.exit
+    made.exit
 
 -- A call answers and leaves what `call` makes of the packet.
 abbrev pub Answers : (Packet → packet.Answer) → Lent → Lent → Lent → Lent → Lent → Lent → Lent → ℕ → Type 0
@@ -73,25 +73,25 @@ pub record Asks (head : List ℕ) (r : Request) : Type 0 where
 -- the player with which a part begins
 abbrev pub Begins : Lent → Lent → Lent → Lent → Lent → Player → Type 0
 Begins head chip memory writes fetched r =
-    record { player = r; fetched = fetched.exit.now }
-    ≡ start_of head.entry.now chip.entry.now memory.entry.now writes.entry.now fetched.entry.now
+    record { player = r; fetched = fetched.exit }
+    ≡ start_of head.entry chip.entry memory.entry writes.entry fetched.entry
 
 -- four maps of the right length
-pub record Maps (reads writes fetched made : Slice) : Type 0 where
-  pub of_reads : length reads.now ≡ 8192
-  pub of_writes : length writes.now ≡ 8192
-  pub of_fetched : length fetched.now ≡ 8192
-  pub of_made : length made.now ≡ 8192
+pub record Maps (reads writes fetched made : List ℕ) : Type 0 where
+  pub of_reads : length reads ≡ 8192
+  pub of_writes : length writes ≡ 8192
+  pub of_fetched : length fetched ≡ 8192
+  pub of_made : length made ≡ 8192
 
 -- the maps with which it ends
 pub record Finishes (reads writes fetched made : Lent) : Type 0 where
-  pub of_reads : reads.exit.now ≡ with_marks reads.entry.now 0
-  pub of_writes : writes.exit.now ≡ with_marks writes.entry.now 0
-  pub of_made : made.exit.now ≡ made_of (with_marks reads.entry.now 0) fetched.entry.now
+  pub of_reads : reads.exit ≡ with_marks reads.entry 0
+  pub of_writes : writes.exit ≡ with_marks writes.entry 0
+  pub of_made : made.exit ≡ made_of (with_marks reads.entry 0) fetched.entry
 
 -- the head with which it ends beside another one
 pub record Tells (alike : Bool) (player : Player) (steps : ℕ) (head : Lent) : Type 0 where
-  pub of_head : head.exit.now ≡ packet.told alike (head_of head.entry.now player steps)
+  pub of_head : head.exit ≡ packet.told alike (head_of head.entry player steps)
 
 -- how far it is played on, and what it is answered with
 abbrev pub played_to : Packet → Progress

@@ -6,6 +6,7 @@
 mod head;
 
 ghost use Rattle.std.specs.Prelude.{◌≡◌, cond, eqb, length};
+ghost use Rattle.laws.specs.Lent.{shared, lent};
 ghost use Rattle.samples.specs.Fetched.{Fetching};
 ghost use Rattle.player.specs.Head.{head_of};
 ghost use Rattle.player.specs.Packet.{played_of, played_beside};
@@ -72,8 +73,8 @@ fn refusal_of_both(first: u8, second: u8) -> u8
 // The player that a packet holds. Where its playing begins, the devices are as the image leaves them, and all eight voices may be sounding
 // already.
 fn begin(head: &[u8], chip: &[u8], memory: &[u8], writes: &[u8], fetched: &mut [u8]) -> Player
-    requires { (length head.now ≡ 64) × (length chip.now ≡ 512) × Fetching memory writes fetched }
-    ensures { Begins head chip memory writes fetched result }
+    requires { (length head.now ≡ 64) × (length chip.now ≡ 512) × Fetching memory.now writes.now fetched.old }
+    ensures { Begins (shared head) (shared chip) (shared memory) (shared writes) (lent fetched) result }
 {
     let cpu = state::whole(&head[10..18]);
     if head[9] == 0 {
@@ -92,8 +93,8 @@ fn begin(head: &[u8], chip: &[u8], memory: &[u8], writes: &[u8], fetched: &mut [
 // Takes the marks of the device addresses out of both maps, and makes the map of what the playing is made of: what was read, what may be
 // fetched, and the devices' own sixteen.
 fn finish(reads: &mut [u8], writes: &mut [u8], fetched: &[u8], made: &mut [u8])
-    requires { Maps reads writes fetched made }
-    ensures { Finishes reads writes fetched made }
+    requires { Maps reads.old writes.old fetched.now made.old }
+    ensures { Finishes (lent reads) (lent writes) (shared fetched) (lent made) }
 {
     watch::put_marks(reads, 0);
     watch::put_marks(writes, 0);
@@ -112,8 +113,8 @@ fn end(
     fetched: &[u8],
     made: &mut [u8],
 )
-    requires { (length head.old ≡ 64) × Maps reads writes fetched made }
-    ensures { (head.new ≡ head_of head.old player steps) × Finishes reads writes fetched made }
+    requires { (length head.old ≡ 64) × Maps reads.old writes.old fetched.now made.old }
+    ensures { (head.new ≡ head_of head.old player steps) × Finishes (lent reads) (lent writes) (shared fetched) (lent made) }
 {
     head::lay(head, player, steps);
     finish(reads, writes, fetched, made);
@@ -131,7 +132,7 @@ pub fn session(
     fetched: &mut [u8],
     made: &mut [u8],
 ) -> u8
-    ensures { Answers played_of head chip memory reads writes fetched made result }
+    ensures { Answers played_of (lent head) (lent chip) (lent memory) (lent reads) (lent writes) (lent fetched) (lent made) result }
 {
     let maps = are_maps(reads.len(), writes.len(), fetched.len(), made.len());
     let refusal = refusal_of(head, chip.len(), memory.len(), maps);
@@ -167,8 +168,8 @@ fn end_told(
     fetched: &[u8],
     made: &mut [u8],
 )
-    requires { (length head.old ≡ 64) × Maps reads writes fetched made }
-    ensures { Tells alike player steps head × Finishes reads writes fetched made }
+    requires { (length head.old ≡ 64) × Maps reads.old writes.old fetched.now made.old }
+    ensures { Tells alike player steps (lent head) × Finishes (lent reads) (lent writes) (shared fetched) (lent made) }
 {
     end(player, steps, head, reads, writes, fetched, made);
     head[50] = psw::one_if(alike);
@@ -192,8 +193,8 @@ pub fn beside(
     fetched2: &mut [u8],
     made2: &mut [u8],
 ) -> u8
-    ensures { AnswersBoth played_beside head chip memory reads writes fetched made
-        head2 chip2 memory2 reads2 writes2 fetched2 made2 result }
+    ensures { AnswersBoth played_beside (lent head) (lent chip) (lent memory) (lent reads) (lent writes) (lent fetched) (lent made)
+        (lent head2) (lent chip2) (lent memory2) (lent reads2) (lent writes2) (lent fetched2) (lent made2) result }
 {
     let maps = are_maps(reads.len(), writes.len(), fetched.len(), made.len());
     let maps2 = are_maps(reads2.len(), writes2.len(), fetched2.len(), made2.len());

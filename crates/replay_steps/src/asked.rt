@@ -77,7 +77,7 @@ fn kind(
     writes: &mut [u8],
     given: &[u8],
 ) -> Answer
-    requires { Ready memory reads writes }
+    requires { Ready memory.old reads.old writes.old }
 {
     let number = at(given, 7);
     match number {
@@ -109,7 +109,7 @@ fn mode(
     number: u8,
     index: u8,
 ) -> Addressed
-    requires { Ready memory reads writes }
+    requires { Ready memory.now reads.old writes.now }
 {
     match number {
         1 => modes::imm(cpu),
@@ -137,7 +137,7 @@ fn reader(
     number: u8,
     given: &[u8],
 ) -> Answer
-    requires { Ready memory reads writes }
+    requires { Ready memory.now reads.old writes.now }
 {
     let low = at(given, 8);
     let argument = word(low, at(given, 9));
@@ -164,7 +164,7 @@ fn writer(
     number: u8,
     given: &[u8],
 ) -> Answer
-    requires { Ready memory reads writes }
+    requires { Ready memory.old reads.now writes.old }
 {
     let low = at(given, 8);
     let argument = word(low, at(given, 9));
@@ -188,7 +188,7 @@ fn write_u16(
     target: u16,
     low: u8,
 ) -> Answer
-    requires { Ready memory reads writes }
+    requires { Ready memory.old reads.now writes.old }
 {
     memory::write_u16(memory, reads, writes, target, word(low, cpu.a));
     found(cpu, 0)

@@ -13,4 +13,4 @@ pub record Told (s : Session) (r : Report) (after : List ℕ) : Type 0 where
 
 -- the contract of a call on lent bytes, of which `tale` makes the session
 abbrev pub Tells : (List ℕ → Session) → Lent → Report → Type 0
-Tells tale input r = Told (tale input.entry.now) r input.exit.now
+Tells tale input r = Told (tale input.entry) r input.exit

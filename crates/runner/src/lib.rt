@@ -4,6 +4,7 @@
 mod lines;
 
 ghost use Rattle.std.specs.Prelude.{◌≡◌, true, [], length, get_or, take};
+ghost use Rattle.laws.specs.Lent.{lent};
 ghost use Rattle.text.specs.Line.{blank};
 ghost use Rattle.editions.specs.Editions.{is_edition, edition_of};
 ghost use Rattle.engine.specs.Provenance.{played};
@@ -31,7 +32,7 @@ fn budget(input: &[u8]) -> u32
 // Runs in an edition from clear maps, and reports.
 fn run_on(cpu: Processor, edition: u8, memory: &mut [u8], budget: u32) -> Report
     requires { is_edition edition ≡ true }
-    ensures { Tells (λ image. reported [] (played (edition_of edition) budget cpu image)) memory result }
+    ensures { Tells (λ image. reported [] (played (edition_of edition) budget cpu image)) (lent memory) result }
 {
     let mut reads = [0u8; 8192];
     let mut writes = [0u8; 8192];
@@ -51,7 +52,7 @@ fn run_on(cpu: Processor, edition: u8, memory: &mut [u8], budget: u32) -> Report
 fn accepted(input: &mut [u8]) -> Report
     requires input_len { length input.old ≡ 65548 }
     requires input_value { is_edition (get_or input.old 0 0) ≡ true }
-    ensures { Tells (λ bytes. reported (take 12 bytes) (run_on bytes)) input result }
+    ensures { Tells (λ bytes. reported (take 12 bytes) (run_on bytes)) (lent input) result }
 {
     let edition = input[0];
     let budget = budget(input);
@@ -72,7 +73,7 @@ fn alone(line: Line) -> Report
 // Runs the input, in whose bytes the memory stands, from clear maps, and reports. An input of a wrong length gives `refused 6`, one with an
 // edition that is neither 1 nor 2 `refused 9`.
 pub fn session(input: &mut [u8]) -> Report
-    ensures { Tells session_of input result }
+    ensures { Tells session_of (lent input) result }
 {
     if input.len() != 65548 {
         return alone(Line::new().text(b"refused 6\n"));

@@ -29,7 +29,7 @@ fn fetch(n: u8, at: u16, writes: &[u8], map: &mut [u8])
 
 // Marks the blocks from an address up to a last one. Blocks that have no last one go all round: 65,536 of them begin at every address.
 fn fetch_blocks(start: u16, memory: &[u8], writes: &[u8], map: &mut [u8])
-    requires { Fetching memory writes map }
+    requires { Fetching memory.now writes.now map.old }
     ensures { map.new ≡ blocks 65536 start memory.now writes.now map.old }
 {
     let mut left: u32 = 65536;
@@ -45,7 +45,7 @@ fn fetch_blocks(start: u16, memory: &[u8], writes: &[u8], map: &mut [u8])
 
 // Marks what may be fetched of a sample, given by its number: its entry in the directory, and the blocks from its start and from its loop.
 fn fetch_sample(directory: u8, number: u8, memory: &[u8], writes: &[u8], map: &mut [u8])
-    requires { Fetching memory writes map }
+    requires { Fetching memory.now writes.now map.old }
     ensures { map.new ≡ sample directory number memory.now writes.now map.old }
 {
     let entry = std::num::wrapping_add_u16(256 * directory as u16, 4 * number as u16);
@@ -58,7 +58,7 @@ fn fetch_sample(directory: u8, number: u8, memory: &[u8], writes: &[u8], map: &m
 // Marks what may be fetched of the samples of voices, which are given by a bit each, as the sound registers name them.
 pub fn fetch_voices(bits: u8, chip: &[u8], memory: &[u8], writes: &[u8], map: &mut [u8])
     requires in_bounds { 128 ≤ length chip.now }
-    requires fetching { Fetching memory writes map }
+    requires fetching { Fetching memory.now writes.now map.old }
     ensures { map.new
         ≡ voices 8 0 bits chip.now memory.now writes.now map.old }
 {

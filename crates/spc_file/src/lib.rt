@@ -2,6 +2,7 @@
 #![tactic(auto)]
 
 ghost use Rattle.std.specs.Prelude.{◌≡◌, length};
+ghost use Rattle.laws.specs.Lent.{lent};
 ghost use Rattle.std.proofs.lemmas.List.Edits.{sets};
 ghost use Rattle.laws.specs.Filled.{Fills};
 ghost use Rattle.spc_file.specs.Layout.{record_in, record_bytes};
@@ -120,7 +121,7 @@ fn write_refusal(file: &[u8], cpu: Processor, memory: &[u8]) -> u8
 
 // Lays record and memory into a file, and answers the refusal. Refused, the file stays as it was.
 pub fn write(file: &mut [u8], cpu: Processor, memory: &[u8]) -> u8
-    ensures { Fills (write_of cpu memory.now) file result }
+    ensures { Fills (write_of cpu memory.now) (lent file) result }
 {
     let refusal = write_refusal(file, cpu, memory);
     if refusal != 0 {

@@ -15,7 +15,7 @@ pub record Told (s : Session) (r : Line) (after : List ℕ) : Type 0 where
 
 -- the contract of a call on lent bytes, of which `tale` makes the session
 abbrev pub Tells : (List ℕ → Session) → Lent → Line → Type 0
-Tells tale input r = Told (tale input.entry.now) r input.exit.now
+Tells tale input r = Told (tale input.entry) r input.exit
 
 -- A step that was to give o answered r, and left `after` in the lent memory. The maps are not lent: nothing is said of them.
 pub record Taken (o : Outcome World Ran) (r : Ran) (after : List ℕ) : Type 0 where
@@ -24,4 +24,4 @@ pub record Taken (o : Outcome World Ran) (r : Ran) (after : List ℕ) : Type 0 w
 
 -- the contract of a step on a lent memory, of which `step` makes the outcome
 abbrev pub Takes : (List ℕ → Outcome World Ran) → Lent → Ran → Type 0
-Takes step memory r = Taken (step memory.entry.now) r memory.exit.now
+Takes step memory r = Taken (step memory.entry) r memory.exit

@@ -2,6 +2,7 @@
 #![tactic(auto)]
 
 ghost use Rattle.std.specs.Prelude.{◌≤◌, true, ◌≡◌, length, get_or};
+ghost use Rattle.laws.specs.Lent.{lent};
 ghost use Rattle.text.specs.Line.{blank, adds};
 ghost use Rattle.editions.specs.Editions.{is_edition, edition_of};
 ghost use Rattle.stepper.specs.Alike.{alike};
@@ -15,7 +16,7 @@ use text::Line;
 // A step from clear maps, of which nothing is kept.
 fn step_on(cpu: Processor, edition: u8, memory: &mut [u8]) -> Ran
     requires { is_edition edition ≡ true }
-    ensures { Takes (stepped (edition_of edition) cpu) memory result }
+    ensures { Takes (stepped (edition_of edition) cpu) (lent memory) result }
 {
     let mut reads = [0u8; 8192];
     let mut writes = [0u8; 8192];
@@ -69,7 +70,7 @@ fn compare(input: &[u8]) -> Line
 fn accepted(input: &mut [u8]) -> Line
     requires input_len { length input.old ≡ 131087 }
     requires input_value { is_edition (get_or input.old 0 0) ≡ true }
-    ensures { Tells compared input result }
+    ensures { Tells compared (lent input) result }
 {
     let edition = input[0];
     take_step(edition, &mut input[1..65544]);
@@ -79,7 +80,7 @@ fn accepted(input: &mut [u8]) -> Line
 // The line that the program prints. The record that the step leaves stands in the input's bytes, in the first record's place. An input of
 // a wrong length gives `refused 6`, one with an edition that is neither 1 nor 2 `refused 9`.
 pub fn session(input: &mut [u8]) -> Line
-    ensures { Tells session_of input result }
+    ensures { Tells session_of (lent input) result }
 {
     if input.len() != 131087 {
         return Line::new().text(b"refused 6\n");

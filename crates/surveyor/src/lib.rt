@@ -2,6 +2,7 @@
 #![tactic(auto)]
 
 ghost use Rattle.std.specs.Prelude.{◌≤◌, cond, ◌≡◌, ◌∷◌, length, take, drop};
+ghost use Rattle.laws.specs.Lent.{lent};
 ghost use Rattle.text.specs.Given.{Gives, says};
 ghost use Rattle.differences.specs.Calls.{marks_of};
 ghost use Rattle.differences.specs.Walk.{Pair, Usable};
@@ -13,7 +14,7 @@ use text::{Line, Written};
 // Gives the byte of the touch, and the first numbers of a row as bytes. Whether the buffer has room is known before anything is stored.
 fn give(touch: bool, row: &[u16], numbers: usize, out: &mut [u8]) -> Written
     requires { (numbers ≤ length row.now) × (numbers ≤ 65536) }
-    ensures { Gives (says (cond touch 1 0 ∷ in_bytes (take numbers row.now))) out result }
+    ensures { Gives (says (cond touch 1 0 ∷ in_bytes (take numbers row.now))) (lent out) result }
 {
     let total = 2 * numbers + 1;
     if out.len() < total {
@@ -39,7 +40,7 @@ fn give(touch: bool, row: &[u16], numbers: usize, out: &mut [u8]) -> Written
 // Gives the stretches at which two memories differ, and whether one of them touches a mark of a map, where there is one.
 fn compare(first: &[u8], second: &[u8], has_map: bool, map: &[u8], out: &mut [u8]) -> Written
     requires { Pair first.now second.now × Usable has_map map.now }
-    ensures { Gives (says (compared (marks_of has_map map.now) first.now second.now)) out result }
+    ensures { Gives (says (compared (marks_of has_map map.now) first.now second.now)) (lent out) result }
 {
     // two numbers for each of 32,768 stretches: there are never more
     let mut row = [0u16; 65536];
@@ -52,7 +53,7 @@ fn compare(first: &[u8], second: &[u8], has_map: bool, map: &[u8], out: &mut [u8
 // memory that is 1 throughout.
 fn of_map(map: &[u8], out: &mut [u8]) -> Written
     requires { length map.now ≡ 8192 }
-    ensures { Gives (says (of_map map.now)) out result }
+    ensures { Gives (says (of_map map.now)) (lent out) result }
 {
     let mut first = [0u8; 65536];
     blanking::blank(&mut first, map, 1);
@@ -65,7 +66,7 @@ fn of_map(map: &[u8], out: &mut [u8]) -> Written
 fn of_pair(memories: &[u8], has_map: bool, map: &[u8], out: &mut [u8]) -> Written
     requires { (length memories.now ≡ 131072) × Usable has_map map.now }
     ensures { Gives (says (compared (marks_of has_map map.now)
-        (take 65536 memories.now) (drop 65536 memories.now))) out result }
+        (take 65536 memories.now) (drop 65536 memories.now))) (lent out) result }
 {
     compare(&memories[0..65536], &memories[65536..], has_map, map, out)
 }
@@ -73,7 +74,7 @@ fn of_pair(memories: &[u8], has_map: bool, map: &[u8], out: &mut [u8]) -> Writte
 // The same without a map: what is lent in its place is not read.
 fn of_memories(input: &[u8], out: &mut [u8]) -> Written
     requires { length input.now ≡ 131072 }
-    ensures { Gives (says (of_memories input.now)) out result }
+    ensures { Gives (says (of_memories input.now)) (lent out) result }
 {
     of_pair(input, false, input, out)
 }
@@ -81,14 +82,14 @@ fn of_memories(input: &[u8], out: &mut [u8]) -> Written
 // The same for two memories behind a map.
 fn of_all(input: &[u8], out: &mut [u8]) -> Written
     requires { length input.now ≡ 139264 }
-    ensures { Gives (says (of_all input.now)) out result }
+    ensures { Gives (says (of_all input.now)) (lent out) result }
 {
     of_pair(&input[8192..], true, &input[0..8192], out)
 }
 
 // Gives the answer to an input into a lent buffer. Refusal 3 where the buffer is too short for it.
 pub fn session(input: &[u8], out: &mut [u8]) -> Written
-    ensures { Gives (says (survey_of input.now)) out result }
+    ensures { Gives (says (survey_of input.now)) (lent out) result }
 {
     if input.len() == 8192 {
         return of_map(input, out);

@@ -3,6 +3,7 @@
 #![tactic(auto)]
 
 ghost use Rattle.std.specs.Prelude.{◌≡◌, true, length};
+ghost use Rattle.laws.specs.Lent.{lent};
 ghost use Rattle.waking.specs.States.{number_of};
 ghost use Rattle.memory.specs.Contracts.{Ready, Yields};
 ghost use Rattle.editions.specs.Editions.{is_edition};
@@ -76,8 +77,8 @@ fn turn(
     reads: &mut [u8],
     writes: &mut [u8],
 ) -> Watched
-    requires { Ready memory reads writes × (is_edition edition ≡ true) }
-    ensures { Yields (watched_run edition 1 cpu) memory reads writes result }
+    requires { Ready memory.old reads.old writes.old × (is_edition edition ≡ true) }
+    ensures { Yields (watched_run edition 1 cpu) (lent memory) (lent reads) (lent writes) result }
 {
     let aside = set_aside(reads, writes);
     let ran = engine::step(cpu, edition, memory, reads, writes);
@@ -95,8 +96,8 @@ fn take_steps(
     budget: u32,
     state: u8,
 ) -> Watched
-    requires { Ready memory reads writes × (is_edition edition ≡ true) × (state ≡ number_of cpu.state) }
-    ensures { Yields (watched_run edition budget cpu) memory reads writes result }
+    requires { Ready memory.old reads.old writes.old × (is_edition edition ≡ true) × (state ≡ number_of cpu.state) }
+    ensures { Yields (watched_run edition budget cpu) (lent memory) (lent reads) (lent writes) result }
 {
     let mut next = cpu;
     let mut stop = state;
@@ -132,7 +133,7 @@ pub fn run(
     writes: &mut [u8],
     budget: u32,
 ) -> Watched
-    ensures { Yields (watched_run edition budget cpu) memory reads writes result }
+    ensures { Yields (watched_run edition budget cpu) (lent memory) (lent reads) (lent writes) result }
 {
     let begun = engine::run(cpu, edition, memory, reads, writes, 0);
     if begun.refusal != 0 {
