@@ -8,7 +8,7 @@ mod part;
 ghost use Rattle.std.specs.Prelude.{◌≡◌, length};
 ghost use Rattle.laws.specs.Lent.{lent};
 ghost use Rattle.laws.specs.Filled.{Fills};
-ghost use Rattle.memory.specs.Contracts.{after, Ready, Yields};
+ghost use Rattle.memory.specs.Promises.{after, Ready, Yields};
 ghost use Rattle.auditor.specs.Packet.{budget_in};
 ghost use Rattle.auditor.specs.Inside.{world_in, asked_of};
 ghost use Rattle.auditor.specs.Audit.{refusal_of, run_on, answered, audit_of};

@@ -4,7 +4,7 @@
 ghost use Rattle.std.specs.Prelude.{◌≡◌, true, ◌++◌, length, replicate, take, drop};
 ghost use Rattle.laws.specs.Lent.{lent};
 ghost use Rattle.blanking.specs.Together.{together};
-ghost use Rattle.memory.specs.Contracts.{Ready, Yields};
+ghost use Rattle.memory.specs.Promises.{Ready, Yields};
 ghost use Rattle.editions.specs.Editions.{is_edition};
 ghost use Rattle.boot_rom.specs.Reading.{rom_step};
 ghost use Rattle.boot_rom.specs.Inside.{any_marked, read_back};

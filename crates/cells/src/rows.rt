@@ -1,7 +1,7 @@
 // The way in and the way out: memory and maps laid out as cells, and cells put back into memory and maps.
 ghost use Rattle.std.specs.Prelude.{◌<◌, ◌≤◌, ◌≡◌, cond, length};
 ghost use Rattle.laws.specs.Lent.{shared, lent};
-ghost use Rattle.memory.specs.Contracts.{before, after, Ready};
+ghost use Rattle.memory.specs.Promises.{before, after, Ready};
 ghost use Rattle.cells.specs.Cells.{byte_of, mark_of, eight_of, values, world_of, Laid};
 
 // A mark as the bit of a cell.

@@ -5,7 +5,7 @@ mod phases;
 
 ghost use Rattle.std.specs.Prelude.{◌≡◌};
 ghost use Rattle.laws.specs.Lent.{shared, lent};
-ghost use Rattle.memory.specs.Contracts.{before, Ready, Yields};
+ghost use Rattle.memory.specs.Promises.{before, Ready, Yields};
 ghost use Rattle.engine.specs.Entry.{ran, accepted, refusal_of, run_of, step_answer, run_answer};
 
 use editions::Edition;

@@ -1,7 +1,7 @@
 // The phases of an instruction: a transaction. What it reads comes first, then what it makes of that, then the stores, and last a
 // taken displacement.
 ghost use Rattle.laws.specs.Lent.{shared, lent};
-ghost use Rattle.memory.specs.Contracts.{Ready, Performs};
+ghost use Rattle.memory.specs.Promises.{Ready, Performs};
 ghost use Rattle.instructions.specs.Step.{begin_of, commit_of, branch_of, finish_of, step_of};
 
 use editions::Edition;

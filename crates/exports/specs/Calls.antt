@@ -8,7 +8,7 @@ use Rattle.memory.specs.World.{World}
 use Rattle.memory.specs.Access.{Outcome, outcome}
 use Rattle.laws.specs.Lent.{Lent}
 use Rattle.laws.specs.Filled.{Filled, filled}
-use Rattle.memory.specs.Contracts.{before, after}
+use Rattle.memory.specs.Promises.{before, after}
 use Rattle.processor.specs.Record.{woken}
 use Rattle.processor.specs.declared.Processor.{Processor}
 use Rattle.state.specs.Registers.{whole_bytes_of, is_whole, whole_of}

@@ -1,7 +1,7 @@
 // Modes that read nothing, or one byte in every row.
 ghost use Rattle.std.specs.Prelude.{◌≡◌};
 ghost use Rattle.laws.specs.Lent.{shared, lent};
-ghost use Rattle.memory.specs.Contracts.{Ready, Performs};
+ghost use Rattle.memory.specs.Promises.{Ready, Performs};
 ghost use Rattle.instructions.specs.Rows.Mode.{immediate, direct, direct_x, absolute, pulled};
 ghost use Rattle.instructions.specs.Gather.{operands};
 ghost use Rattle.gather.specs.Columns.{plainly};

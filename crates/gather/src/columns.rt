@@ -2,7 +2,7 @@
 ghost use Rattle.std.specs.Prelude.{◌≡◌};
 ghost use Rattle.laws.specs.Lent.{shared, lent};
 ghost use Rattle.std.specs.Int.Bits.{bit_and};
-ghost use Rattle.memory.specs.Contracts.{Ready};
+ghost use Rattle.memory.specs.Promises.{Ready};
 ghost use Rattle.gather.specs.Columns.{RowPerforms};
 
 use crate::{bytes, places, several, ways};

@@ -8,7 +8,7 @@ mod several;
 mod ways;
 
 ghost use Rattle.laws.specs.Lent.{shared, lent};
-ghost use Rattle.memory.specs.Contracts.{Ready, Performs};
+ghost use Rattle.memory.specs.Promises.{Ready, Performs};
 ghost use Rattle.instructions.specs.Gather.{gather_of};
 ghost use Rattle.instructions.specs.Rows.{row_of};
 

@@ -1,7 +1,7 @@
 // What an address that a mode found is for: the byte there, or the address alone.
 ghost use Rattle.std.specs.Prelude.{◌≡◌};
 ghost use Rattle.laws.specs.Lent.{shared, lent};
-ghost use Rattle.memory.specs.Contracts.{Ready, Performs};
+ghost use Rattle.memory.specs.Promises.{Ready, Performs};
 ghost use Rattle.memory.specs.Access.{then};
 ghost use Rattle.modes.specs.Modes as mode;
 ghost use Rattle.instructions.specs.Gather.{operands, loaded};

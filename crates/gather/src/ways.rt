@@ -1,7 +1,7 @@
 // Where to go: what jumps, calls and returns read.
 ghost use Rattle.std.specs.Prelude.{◌-◌, ◌*◌, ◌/◌};
 ghost use Rattle.laws.specs.Lent.{shared, lent};
-ghost use Rattle.memory.specs.Contracts.{Ready, Performs};
+ghost use Rattle.memory.specs.Promises.{Ready, Performs};
 ghost use Rattle.instructions.specs.Rows.Mode.{upper_page, word, word_at_x, pulled_word, pulled_three};
 ghost use Rattle.instructions.specs.Gather.{vector};
 ghost use Rattle.gather.specs.Columns.{plainly};

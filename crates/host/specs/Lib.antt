@@ -2,7 +2,7 @@ pub mod Chip
 pub mod Turn
 pub mod Play
 pub mod Beside
-pub mod Contracts
+pub mod Promises
 pub mod Lengths
 pub mod Theorems
 pub mod Exact

@@ -3,7 +3,7 @@ ghost use Rattle.std.specs.Prelude.{◌≤◌, ◌≡◌, true, length};
 ghost use Rattle.laws.specs.Lent.{lent};
 ghost use Rattle.editions.specs.Editions.{is_edition, edition_of};
 ghost use Rattle.host.specs.Beside.{same_registers, same_stores, alike, beside_of};
-ghost use Rattle.host.specs.Contracts.{Set, before, after_beside};
+ghost use Rattle.host.specs.Promises.{Set, before, after_beside};
 
 use crate::{Player, goes_on, take_turn};
 use devices::Devices;

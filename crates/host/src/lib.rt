@@ -7,11 +7,11 @@ mod chip;
 
 ghost use Rattle.std.specs.Prelude.{◌≤◌, ◌≡◌, true, length};
 ghost use Rattle.laws.specs.Lent.{lent};
-ghost use Rattle.memory.specs.Contracts.{Ready, Yields};
+ghost use Rattle.memory.specs.Promises.{Ready, Yields};
 ghost use Rattle.editions.specs.Editions.{is_edition, edition_of};
 ghost use Rattle.host.specs.Turn.{laid_out, step_on, noted, turn_of};
 ghost use Rattle.host.specs.Play.{goes_on, play_of};
-ghost use Rattle.host.specs.Contracts.{Set, before, after, after_play};
+ghost use Rattle.host.specs.Promises.{Set, before, after, after_play};
 
 pub use beside::{Beside, play_both};
 use boot_rom::Stepped;

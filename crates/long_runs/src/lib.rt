@@ -2,7 +2,7 @@
 #![tactic(auto)]
 
 ghost use Rattle.laws.specs.Lent.{lent};
-ghost use Rattle.memory.specs.Contracts.{Ready, Yields};
+ghost use Rattle.memory.specs.Promises.{Ready, Yields};
 ghost use Rattle.instructions.specs.Step.{step_of};
 ghost use Rattle.instructions.specs.Runs.{run_of};
 ghost use Rattle.registers.specs.Flat.{record_of};

@@ -1,6 +1,6 @@
 pub mod World
 pub mod Access
-pub mod Contracts
+pub mod Promises
 pub mod Words
 pub mod Theorems
 pub mod Inside

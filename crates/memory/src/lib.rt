@@ -3,7 +3,7 @@
 
 ghost use Rattle.laws.specs.Lent.{shared, lent};
 ghost use Rattle.memory.specs.Access.{ask, put};
-ghost use Rattle.memory.specs.Contracts.{Ready, Performs};
+ghost use Rattle.memory.specs.Promises.{Ready, Performs};
 ghost use Rattle.memory.specs.Words.{read_word, write_word};
 
 // The byte at an address, which is marked as read unless it has been stored to before.

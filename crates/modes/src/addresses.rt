@@ -1,7 +1,7 @@
 // Address modes.
 ghost use Rattle.std.specs.Prelude.{◌≡◌, ◌^◌, ◌≤◌};
 ghost use Rattle.laws.specs.Lent.{shared, lent};
-ghost use Rattle.memory.specs.Contracts.{Ready, Performs};
+ghost use Rattle.memory.specs.Promises.{Ready, Performs};
 ghost use Rattle.modes.specs.Addresses.{direct_at, onward};
 ghost use Rattle.modes.specs.Modes.{fetch, fetch_word, immediate, direct, direct_word, indirect, pointed, pointer_x, pointer_y, absolute, absolute_pointer, bit_operand, bit_read};
 ghost use Rattle.psw.specs.Status.{bit_of};

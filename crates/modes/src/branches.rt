@@ -1,6 +1,6 @@
 // Branches.
 ghost use Rattle.laws.specs.Lent.{shared, lent};
-ghost use Rattle.memory.specs.Contracts.{Ready, Performs};
+ghost use Rattle.memory.specs.Promises.{Ready, Performs};
 ghost use Rattle.modes.specs.Branches.{branched, branched_if};
 
 use crate::addresses::{fetch_u8, past};

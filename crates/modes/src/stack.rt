@@ -1,6 +1,6 @@
 // The stack, at 0x100 + SP.
 ghost use Rattle.laws.specs.Lent.{shared, lent};
-ghost use Rattle.memory.specs.Contracts.{Ready, Performs};
+ghost use Rattle.memory.specs.Promises.{Ready, Performs};
 ghost use Rattle.modes.specs.Stack.{push, push_word, pull, pull_word, called};
 
 use crate::Addressed;

@@ -15,7 +15,7 @@ use Rattle.player.specs.Head.{head_of}
 use Rattle.player.specs.declared.head.Request.{Request}
 use Rattle.player.specs.Packet.{Packet, Start, refusal_of, start_of, begun_of, made_of, finished, answers, told}
 use Rattle.player.specs.Accepted.{Accepted}
-use Rattle.player.specs.Contracts.{packet_of, map_sizes, Refuses, Asks, played_to, played_on, played_both_to, played_both_on}
+use Rattle.player.specs.Promises.{packet_of, map_sizes, Refuses, Asks, played_to, played_on, played_both_to, played_both_on}
 
 -- The playing that begins from a packet.
 pub begun : (p : Packet) {player : Player} {map : List ℕ}

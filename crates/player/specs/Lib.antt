@@ -1,5 +1,5 @@
 pub mod Head
 pub mod Packet
 pub mod Accepted
-pub mod Contracts
+pub mod Promises
 pub mod Theorems

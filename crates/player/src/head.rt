@@ -1,7 +1,7 @@
 // The head of a packet, 64 bytes: what is asked, and the player.
 ghost use Rattle.std.specs.Prelude.{◌+◌, ◌<◌, ◌≡◌, length};
 ghost use Rattle.player.specs.Head.{word_in, timer_in, devices_of, devices_bytes, budget_in, until_in, head_of};
-ghost use Rattle.player.specs.Contracts.{Asks};
+ghost use Rattle.player.specs.Promises.{Asks};
 
 use devices::{Devices, Timer};
 use host::Player;

@@ -10,7 +10,7 @@ ghost use Rattle.laws.specs.Lent.{shared, lent};
 ghost use Rattle.samples.specs.Fetched.{Fetching};
 ghost use Rattle.player.specs.Head.{head_of};
 ghost use Rattle.player.specs.Packet.{played_of, played_beside};
-ghost use Rattle.player.specs.Contracts.{map_sizes, Refuses, Answers, AnswersBoth, Begins, Maps, Finishes, Tells};
+ghost use Rattle.player.specs.Promises.{map_sizes, Refuses, Answers, AnswersBoth, Begins, Maps, Finishes, Tells};
 
 use devices::Devices;
 use host::Player;

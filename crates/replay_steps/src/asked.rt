@@ -1,5 +1,5 @@
 // What a case asks: a step, or one of the functions on memory. Pointers are those of the first edition, which is the Rust crate's.
-ghost use Rattle.memory.specs.Contracts.{Ready};
+ghost use Rattle.memory.specs.Promises.{Ready};
 
 use crate::case::{at, registers};
 use editions::Edition;

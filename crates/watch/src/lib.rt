@@ -5,7 +5,7 @@
 ghost use Rattle.std.specs.Prelude.{◌≡◌, true, length};
 ghost use Rattle.laws.specs.Lent.{lent};
 ghost use Rattle.waking.specs.States.{number_of};
-ghost use Rattle.memory.specs.Contracts.{Ready, Yields};
+ghost use Rattle.memory.specs.Promises.{Ready, Yields};
 ghost use Rattle.editions.specs.Editions.{is_edition};
 ghost use Rattle.watch.specs.Calls.{watched_run};
 ghost use Rattle.watch.specs.Marks.{Marks, SetAside, PutBack, with_marks};

@@ -1,0 +1,26 @@
+-- The invariant is `SoFar`: each address is either kept or blanked and counted.
+-- Assumes nothing.
+use Prim.Native.Nat.{◌-◌}
+use mathlib.Core.Logic.{⊎_elim}
+use borrow.Author.Rules.{rules}
+use Rattle.blanking.proofs.Walk.{SoFar, wrong_memory, wrong_map, begin, count_fits, one_kept, one_blanked, all_blanked}
+use Rattle.blanking.proofs.blank.Goals as goal
+use Rattle.blanking.proofs.blank.Goals.{else-not-is_marked, then-not-is_marked}
+
+pub returns-then-memory-ne65536 : goal.returns-then-memory-ne65536
+returns-then-memory-ne65536 c = search (rules, wrong_memory)
+
+pub returns-then-map-ne8192 : goal.returns-then-map-ne8192
+returns-then-map-ne8192 c = search (rules, wrong_map)
+
+pub loop-at-init : goal.loop-at-init
+loop-at-init c = search (rules, begin)
+
+pub overflow_add-blanked : goal.overflow_add-blanked
+overflow_add-blanked c = search (rules, count_fits)
+
+pub loop-at-preserved : goal.loop-at-preserved
+loop-at-preserved c = elim c.if-not-is_marked.branch [ then-not-is_marked t ↦ search (rules, one_blanked) | else-not-is_marked t ↦ search (rules, one_kept) ]
+
+pub returns : goal.returns
+returns c = search (rules, all_blanked)

@@ -1,0 +1,15 @@
+-- PC is the operand word.
+-- Assumes nothing.
+use Rattle.std.proofs.Common.{rules}
+use Rattle.memory.proofs.Laws.{ends}
+use Rattle.memory.specs.Access.{then}
+use Rattle.instructions.specs.Effects.{effect_of}
+use Rattle.instructions.specs.Gather.{gather_of, loaded}
+use Rattle.instructions.specs.Rows.{rows}
+use Rattle.instructions.specs.Step.{branch_of, commit_of, finish_of}
+use Rattle.by_column.proofs.Laws.{found_then}
+use Rattle.by_column.proofs.jumps.jump_to.Goals as goal
+
+pub returns : goal.returns
+unfolding rows gather_of loaded effect_of finish_of commit_of branch_of then
+returns c = λ edition. rw c.jump.ensures (found_then _ _ _ c.abs_off-to.ensures ends)

@@ -1,0 +1,16 @@
+-- The operand byte, in X.
+-- Assumes nothing.
+use Rattle.std.proofs.Common.{ap, rules}
+use Rattle.memory.proofs.Laws.{ends_at}
+use Rattle.memory.specs.Access.{then}
+use Rattle.modes.specs.Addresses.{onward}
+use Rattle.instructions.specs.Effects.{effect_of}
+use Rattle.instructions.specs.Gather.{gather_of, loaded}
+use Rattle.instructions.specs.Rows.{rows}
+use Rattle.instructions.specs.Step.{branch_of, commit_of, finish_of}
+use Rattle.by_column.proofs.Laws.{found_then}
+use Rattle.by_column.proofs.moves.immediate_x.Goals as goal
+
+pub returns : goal.returns
+unfolding rows gather_of loaded effect_of finish_of commit_of branch_of then
+returns c = λ edition. rw c.past.ensures (found_then _ _ _ c.fetch-v.ensures (ends_at (ap onward c.load_x.ensures)))

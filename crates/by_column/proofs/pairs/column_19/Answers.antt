@@ -1,0 +1,28 @@
+-- The last two rows move X; in the others both operands are found, the source is read, and the row does the rest.
+-- Assumes nothing.
+use Rattle.std.proofs.Common.{refl, ap, rules}
+use Rattle.memory.proofs.Laws.{read_at_lem}
+use Rattle.memory.specs.Access.{then}
+use Rattle.instructions.specs.Effects.{effect_of}
+use Rattle.instructions.specs.Gather.{both_loaded, gather_of}
+use Rattle.instructions.specs.Rows.Mode.{at_x_at_y}
+use Rattle.instructions.specs.Rows.{rows}
+use Rattle.registers.specs.Flat.{record_of}
+use Rattle.by_column.proofs.Grouped.{moves, pairs}
+use Rattle.by_column.proofs.pairs.column_19.Goals as goal
+
+pub returns-then-row-ge6 : goal.returns-then-row-ge6
+unfolding rows gather_of effect_of
+returns-then-row-ge6 c = λ edition. moves 0x19 edition _ _ refl refl
+    c.requires.row_bound
+    c.if-row-ge6.true
+    c.d_off-at.ensures (ap record_of
+    c.past.ensures) c.move_x.ensures
+
+pub returns : goal.returns
+unfolding rows gather_of both_loaded then
+returns c = λ edition. pairs 0x19 at_x_at_y refl edition _
+    c.if-row-ge6.false
+    (read_at_lem c.direct-from.ensures
+    c.read-source.ensures (rw c.direct-at.ensures
+    at c.combined.ensures))

@@ -1,0 +1,17 @@
+-- A comparison with the byte in the direct page.
+-- Assumes nothing.
+use Rattle.std.proofs.Common.{ap, rules}
+use Rattle.memory.proofs.Laws.{ends_at, read_then}
+use Rattle.memory.specs.Access.{then}
+use Rattle.modes.specs.Addresses.{onward}
+use Rattle.instructions.specs.Effects.{effect_of}
+use Rattle.instructions.specs.Gather.{gather_of, loaded}
+use Rattle.instructions.specs.Rows.{rows}
+use Rattle.instructions.specs.Step.{branch_of, commit_of, finish_of}
+use Rattle.by_column.proofs.Laws.{found_then}
+use Rattle.by_column.proofs.tests.compare_x_d.Goals as goal
+
+pub returns : goal.returns
+unfolding rows gather_of loaded effect_of finish_of commit_of branch_of then
+returns c = λ edition. rw c.past.ensures
+    (found_then _ _ _ c.d_off-at.ensures (read_then c.read-v.ensures (ends_at (ap onward c.cmp.ensures))))

@@ -1,0 +1,21 @@
+-- The byte is read and stored with A's bits set.
+-- Assumes nothing.
+use Rattle.std.proofs.Common.{ap, rules}
+use Rattle.memory.proofs.Laws.{read_then, put_then, ends_at}
+use Rattle.memory.specs.Access.{then}
+use Rattle.modes.specs.Addresses.{onward}
+use Rattle.instructions.specs.Effects.{effect_of}
+use Rattle.instructions.specs.Gather.{gather_of, loaded}
+use Rattle.instructions.specs.Rows.{rows}
+use Rattle.instructions.specs.Step.{commit_of, branch_of, finish_of}
+use Rattle.by_column.proofs.Laws.{found_then}
+use Rattle.by_column.proofs.tests.tset.Goals as goal
+
+pub shape_of-cells : goal.shape_of-cells
+shape_of-cells c = search (rules, c.abs_off-at.auto, c.read-v.auto, c.store.auto)
+
+pub returns : goal.returns
+unfolding rows gather_of loaded effect_of finish_of commit_of branch_of then
+returns c = λ edition. rw (c.past-2.ensures, c.past.ensures)
+    (found_then _ _ _ c.abs_off-at.ensures
+    (read_then c.read-v.ensures (put_then c.store.ensures (ends_at (rw c.difference.ensures at (ap (λ p. onward (onward p)) c.nz.ensures.cpu))))))

@@ -1,0 +1,10 @@
+-- The mode finds the address, and `load` reads there.
+-- Assumes nothing.
+use Rattle.instructions.specs.Gather.{gather_of}
+use borrow.Author.Rules.{rules}
+use Rattle.memory.proofs.Laws.{accesses}
+use Rattle.gather.proofs.bytes.direct.Goals as goal
+
+pub returns : goal.returns
+unfolding gather_of
+returns c = search accesses

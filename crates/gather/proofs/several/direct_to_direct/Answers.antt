@@ -1,0 +1,10 @@
+-- Both operand bytes are fetched, the source's first; then the source alone is read.
+-- Assumes nothing.
+use borrow.Author.Rules.{rules}
+use Rattle.memory.proofs.Laws.{accesses}
+use Rattle.instructions.specs.Gather.{gather_of}
+use Rattle.gather.proofs.several.direct_to_direct.Goals as goal
+
+pub returns : goal.returns
+unfolding gather_of
+returns c = search accesses

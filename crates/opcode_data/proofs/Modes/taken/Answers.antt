@@ -1,0 +1,17 @@
+-- The count says how many modes the list has: from 3 up it is all three.
+-- Assumes nothing.
+use mathlib.Core.Path.{refl}
+use native.Mathlib.Omega.{arith}
+use borrow.Author.Rules.{rules}
+use Rattle.opcode_data.specs.Format.{takes, taken}
+use Rattle.opcode_data.proofs.Lists.{sum_one, sum_two, sum_three}
+use Rattle.opcode_data.proofs.Modes.taken.Goals as goal
+
+pub returns-in-1 : goal.returns-in-1
+returns-in-1 c = (search (rules, sum_one takes taken refl (λ m ms. refl)), omega arith)
+
+pub returns-in-2 : goal.returns-in-2
+returns-in-2 c = (search (rules, sum_two takes taken refl (λ m ms. refl)), omega arith)
+
+pub returns-in_default : goal.returns-in_default
+returns-in_default c = (search (rules, sum_three takes taken refl (λ m ms. refl)), omega arith)

@@ -1,0 +1,79 @@
+-- Each part has just the room that is stored there.
+-- Assumes nothing.
+use Prim.Native.Nat.{ℕ, ◌≤◌}
+use mathlib.Core.Path.{◌≡◌, refl, ◌∙◌}
+use mathlib.Core.List.{List}
+use native.Mathlib.Omega.{arith}
+use lib.ListN.{length, set, length-set}
+use lib.Seq.{sets, length-sets}
+use borrow.Author.Rules.{rules}
+use borrow.Rule.Slice.PartMut.{put_mid}
+use Rattle.laws.specs.Stored.{put_stored}
+use Rattle.state.specs.Registers.{bytes_of, whole_bytes_of, four_bytes}
+use Rattle.host.specs.declared.Player.{Player}
+use Rattle.player.specs.Head.{devices_bytes, head_of}
+use Rattle.player.proofs.head.lay.Goals as goal
+
+module _ (head : List ℕ) (size : length head ≡ 64) (player : Player) where
+  abbrev begun : List ℕ
+  begun = set head 9 1
+
+  begun-size : length begun ≡ 64
+  begun-size = length-set head 9 1 ∙ size
+
+  whole_room : 18 ≤ length begun
+  whole_room = omega (arith, begun-size)
+
+  module _ {eight : List ℕ} (is : eight ≡ whole_bytes_of player.cpu) where
+    abbrev one : List ℕ
+    one = put_mid 10 8 begun eight
+
+    with-registers : one ≡ sets begun 10 (whole_bytes_of player.cpu)
+    unfolding whole_bytes_of bytes_of
+    with-registers = rw is (put_stored begun (whole_bytes_of player.cpu) 10 refl (omega (arith, begun-size)))
+
+    one_size : length one ≡ 64
+    one_size = rw with-registers (length-sets begun 10 (whole_bytes_of player.cpu) ∙ begun-size)
+
+    number-room : 22 ≤ length one
+    number-room = omega (arith, one_size)
+
+    module _ (steps : ℕ) {four : List ℕ} (n : four ≡ four_bytes steps) where
+      abbrev two : List ℕ
+      two = put_mid 18 4 one four
+
+      with_steps : two ≡ sets one 18 (four_bytes steps)
+      with_steps = rw n (put_stored one (four_bytes steps) 18 refl (omega (arith, one_size)))
+
+      two_size : length two ≡ 64
+      two_size = rw with_steps (length-sets one 18 (four_bytes steps) ∙ one_size)
+
+      devices-room : 50 ≤ length two
+      devices-room = omega (arith, two_size)
+
+      module _ {rest : List ℕ} (d : rest ≡ devices_bytes player.devices) where
+        with-devices : put_mid 23 27 two rest ≡ sets two 23 (devices_bytes player.devices)
+        unfolding devices_bytes
+        with-devices = rw d (put_stored two (devices_bytes player.devices) 23 refl (omega (arith, two_size)))
+
+        still : length (put_mid 23 27 two rest) ≡ length head
+        still = rw with-devices (length-sets two 23 (devices_bytes player.devices) ∙ omega (arith, two_size))
+
+        all_laid : put_mid 23 27 two rest ≡ head_of head player steps
+        all_laid = with-devices ∙ rw (with_steps, with-registers)
+
+pub slice_bounds-set_whole-end : goal.slice_bounds-set_whole-end
+slice_bounds-set_whole-end c = search (rules, whole_room)
+
+pub slice_bounds-set_number-end : goal.slice_bounds-set_number-end
+slice_bounds-set_number-end c = search (rules, number-room)
+
+pub slice_bounds-set_devices-end : goal.slice_bounds-set_devices-end
+slice_bounds-set_devices-end c = search (rules, devices-room)
+
+pub shape_of-head : goal.shape_of-head
+shape_of-head c = still c.args.head.now c.requires c.args.player c.set_whole.ensures c.args.steps
+    c.set_number.ensures c.set_devices.ensures
+
+pub returns : goal.returns
+returns c = search (rules, all_laid)

@@ -1,0 +1,7 @@
+-- The definition's sum, handed on by `mov`.
+-- Assumes nothing.
+use Rattle.std.proofs.Common.{rules}
+use Rattle.processor.proofs.Processor.inc.Goals as goal
+
+pub returns : goal.returns
+returns c = cc

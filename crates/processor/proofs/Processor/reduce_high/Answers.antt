@@ -1,0 +1,11 @@
+-- As for `adjust_high`: the definition's own test, and what its branches store.
+-- Assumes nothing.
+use Rattle.std.proofs.Common.{rules}
+use Rattle.processor.proofs.Same.{same_processor, when, otherwise}
+use Rattle.processor.proofs.Processor.reduce_high.Goals as goal
+
+pub returns-then-self : goal.returns-then-self
+returns-then-self c = search (rules, when, same_processor)
+
+pub returns-else-self : goal.returns-else-self
+returns-else-self c = search (rules, otherwise)

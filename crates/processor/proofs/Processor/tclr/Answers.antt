@@ -1,0 +1,7 @@
+-- As for `tset`, with the bits cleared.
+-- Assumes nothing.
+use Rattle.std.proofs.Common.{rules}
+use Rattle.processor.proofs.Processor.tclr.Goals as goal
+
+pub returns : goal.returns
+returns c = cc

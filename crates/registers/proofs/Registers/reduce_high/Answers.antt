@@ -1,0 +1,12 @@
+-- As for `adjust_high`: the definition's own test, and what its branches store.
+-- Assumes nothing.
+use Rattle.std.proofs.Common.{rules}
+use Rattle.processor.proofs.Same.{when, otherwise}
+use Rattle.registers.proofs.Registers.reduce_high.Goals as goal
+
+pub returns-then-self : goal.returns-then-self
+returns-then-self c = when _ _ _ _ c.if-self.true
+    (rw (c.with_a.ensures, c.with_c.ensures, c.difference.ensures))
+
+pub returns-else-self : goal.returns-else-self
+returns-else-self c = search (rules, otherwise)

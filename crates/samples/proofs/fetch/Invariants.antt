@@ -1,0 +1,11 @@
+-- The invariant is `Marking`: what is left to mark, from here on, makes the map what it is to be.
+-- Assumes nothing.
+use Rattle.std.proofs.Common.{rules}
+use Rattle.samples.proofs.Marking.{Marking, begun, still_long, one_marked, all_marked}
+use Rattle.samples.proofs.fetch.Given as goal
+
+abbrev pub invariant-loop-left : goal.invariant-loop-left
+invariant-loop-left l = Marking l.n l.at l.writes l.initial.map l.map l.left l.next
+
+abbrev pub decreases-loop-left : goal.decreases-loop-left
+decreases-loop-left l = l.left

@@ -1,0 +1,11 @@
+-- The invariant is `Stepping`: the blocks that are left, from here on, make the map what it is to be.
+-- Assumes nothing.
+use Rattle.std.proofs.Common.{rules}
+use Rattle.samples.proofs.Stepping.{Stepping, begun, still_long, one_block, none_left, last_met}
+use Rattle.samples.proofs.fetch_blocks.Given as goal
+
+abbrev pub invariant-loop-left : goal.invariant-loop-left
+invariant-loop-left l = Stepping 65536 l.start l.memory l.writes l.initial.map l.map l.left l.at l.last
+
+abbrev pub decreases-loop-left : goal.decreases-loop-left
+decreases-loop-left l = l.left

@@ -1,0 +1,14 @@
+-- All bytes so far are alike; it ends where two are not, or where there are no more.
+-- Assumes nothing.
+use Prim.Native.Nat.{◌-◌}
+use lib.ListN.{length}
+use native.Mathlib.Omega.{arith}
+use borrow.Author.Rules.{rules}
+use Rattle.stepper.proofs.Walk.{Walked, begun, in_second, one_more, apart, ended}
+use Rattle.stepper.proofs.alike.Given as goal
+
+abbrev pub invariant-loop-at : goal.invariant-loop-at
+invariant-loop-at l = Walked l.first l.second l.at
+
+abbrev pub decreases-loop-at : goal.decreases-loop-at
+decreases-loop-at l = length l.first - l.at
