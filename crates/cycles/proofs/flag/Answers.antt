@@ -15,15 +15,15 @@ none (suc (suc (suc n))) psw others = refl
 
 pub returns-in-0 : goal.returns-in-0
 unfolding flag_of
-returns-in-0 c = rw c.in-0.keys1
+returns-in-0 c = rw c.in-0.is
 
 pub returns-in-1 : goal.returns-in-1
 unfolding flag_of
-returns-in-1 c = rw c.in-1.keys2
+returns-in-1 c = rw c.in-1.is
 
 pub returns-in-2 : goal.returns-in-2
 unfolding flag_of
-returns-in-2 c = rw c.in-2.keys3
+returns-in-2 c = rw c.in-2.is
 
 pub returns-in_default : goal.returns-in_default
 returns-in_default c = search (rules, none)

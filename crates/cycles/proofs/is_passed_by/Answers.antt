@@ -38,19 +38,19 @@ returns-then-opcode-eq3 c = rw (ne_eqb _ _ c.if-opcode-eq16.false, eq-eqb _ _ c.
 
 pub returns-in-46 : goal.returns-in-46
 unfolding is_passed_by
-returns-in-46 c = rw (c.in-46.keys1, c.branch_byte-in-46.ensures)
+returns-in-46 c = rw (c.in-46.is, c.branch_byte-in-46.ensures)
 
 pub returns-in-222 : goal.returns-in-222
 unfolding is_passed_by
-returns-in-222 c = rw (c.in-222.keys2, c.branch_byte-in-222.ensures)
+returns-in-222 c = rw (c.in-222.is, c.branch_byte-in-222.ensures)
 
 pub returns-in-110 : goal.returns-in-110
 unfolding is_passed_by
-returns-in-110 c = rw (c.in-110.keys3, c.branch_byte-in-110.ensures)
+returns-in-110 c = rw (c.in-110.is, c.branch_byte-in-110.ensures)
 
 pub returns-in-254 : goal.returns-in-254
 unfolding is_passed_by
-returns-in-254 c = rw c.in-254.keys4
+returns-in-254 c = rw c.in-254.is
 
 pub returns-in_default : goal.returns-in_default
-returns-in_default c = none _ _ _ c.if-opcode-eq16.false c.if-opcode-eq3.false c.in_default.rest
+returns-in_default c = search (rules, none)

@@ -1,6 +1,5 @@
 -- A branch that is passed by has two cycles to leave out. An opcode, which is a byte that was read, is below 256.
 -- Assumes nothing.
-use Rattle.std.proofs.Common.{rules}
 use Rattle.cycles.proofs.Entries.{two_less, passed_by, whole}
 use Rattle.cycles.proofs.of_step.Goals as goal
 
