@@ -1,7 +1,7 @@
 -- The invariant is `Marking`: what is left to mark, from here on, makes the map what it is to be.
 -- Assumes nothing.
 use Rattle.std.proofs.Common.{rules}
-use Rattle.samples.proofs.Marking.{Marking, begun, still_long, one_marked, all_marked}
+use Rattle.samples.proofs.Marking.{begun, still_long, one_marked, all_marked}
 use Rattle.samples.proofs.fetch.Goals as goal
 
 pub loop-left-init : goal.loop-left-init

@@ -1,7 +1,6 @@
 -- The invariant is `Marking`: what is left to mark, from here on, makes the map what it is to be.
 -- Assumes nothing.
-use Rattle.std.proofs.Common.{rules}
-use Rattle.samples.proofs.Marking.{Marking, begun, still_long, one_marked, all_marked}
+use Rattle.samples.proofs.Marking.{Marking}
 use Rattle.samples.proofs.fetch.Given as goal
 
 abbrev pub invariant-loop-left : goal.invariant-loop-left

@@ -1,7 +1,7 @@
 -- The invariant is `Stepping`: the blocks that are left, from here on, make the map what it is to be.
 -- Assumes nothing.
 use Rattle.std.proofs.Common.{rules}
-use Rattle.samples.proofs.Stepping.{Stepping, begun, still_long, one_block, none_left, last_met}
+use Rattle.samples.proofs.Stepping.{begun, still_long, one_block, none_left, last_met}
 use Rattle.samples.proofs.fetch_blocks.Goals as goal
 
 pub loop-left-init : goal.loop-left-init

@@ -1,7 +1,6 @@
 -- The invariant is `Stepping`: the blocks that are left, from here on, make the map what it is to be.
 -- Assumes nothing.
-use Rattle.std.proofs.Common.{rules}
-use Rattle.samples.proofs.Stepping.{Stepping, begun, still_long, one_block, none_left, last_met}
+use Rattle.samples.proofs.Stepping.{Stepping}
 use Rattle.samples.proofs.fetch_blocks.Given as goal
 
 abbrev pub invariant-loop-left : goal.invariant-loop-left

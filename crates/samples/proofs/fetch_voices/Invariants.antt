@@ -1,7 +1,7 @@
 -- The invariant is `Voicing`: the voices that are left, from here on, make the map what it is to be.
 -- Assumes nothing.
-use Rattle.std.proofs.Common.{◌-◌, ◌∙◌, ⊎_elim, rules}
-use Rattle.samples.proofs.Voicing.{Voicing, begun, still_long, one_voiced, one_silent, all_voiced}
+use Rattle.std.proofs.Common.{◌-◌}
+use Rattle.samples.proofs.Voicing.{Voicing}
 use Rattle.samples.proofs.fetch_voices.Given as goal
 
 abbrev pub invariant-loop-voice : goal.invariant-loop-voice

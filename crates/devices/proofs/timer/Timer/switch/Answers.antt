@@ -1,9 +1,10 @@
 -- The two tests of the code are the two of the definition, and each path stores what the definition chooses.
 -- Assumes nothing.
-use Rattle.std.proofs.Common.{◌≡◌, Bool, true, false, not, ⊎_elim, rules}
+use Rattle.std.proofs.Common.{◌≡◌, Bool, true, false, not, rules}
 use Rattle.devices.specs.declared.timer.Timer.{Timer}
 use Rattle.devices.specs.Timers.{timer, switched}
 use Rattle.devices.proofs.timer.Timer.switch.Goals as goal
+use Rattle.devices.proofs.timer.Timer.switch.Goals.{else-on-via-then-on+else-not-self, else-on-via-else-on}
 
 -- a timer that goes on; one that goes off or stays off; and one that stays on
 module _ (on : Bool) (t : Timer) where
@@ -23,4 +24,8 @@ pub returns-then-not-self : goal.returns-then-not-self
 returns-then-not-self c = search (rules, turned_on)
 
 pub returns-else-on : goal.returns-else-on
-returns-else-on c = ⊎_elim (λ w. search (rules, stays_on)) (λ w. search (rules, stays-off)) c.else-on.branch
+returns-else-on c =
+    elim c.else-on.branch [
+      | else-on-via-then-on+else-not-self w ↦ search (rules, stays_on)
+      | else-on-via-else-on w ↦ search (rules, stays-off)
+    ]
