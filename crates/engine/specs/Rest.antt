@@ -14,7 +14,7 @@ use Rattle.processor.specs.declared.Processor.{Processor}
 use Rattle.instructions.specs.Order.{after_opcode, opcode_first}
 use Rattle.instructions.specs.States.{state_after}
 use Rattle.instructions.specs.Step.{step_of}
-use Rattle.instructions.proofs.States.{ends_performed, after_opcode}
+use Rattle.instructions.proofs.States.{ends_performed, after_opcode_lem}
 use Rattle.runs.specs.Run.{rested, joined}
 use Rattle.runs.specs.Trace.{taken}
 use Rattle.runs.proofs.Run.{run_rests}
@@ -31,7 +31,7 @@ state_after_step edition cpu w bytes =
     let opcode = byte_at cpu.pc w in
     rw (opcode_first edition cpu)
     (ends_performed (λ (next : Processor). next.state ≡ state_after opcode cpu.state) (after_opcode edition cpu opcode) (seen cpu.pc w)
-    (after_opcode edition cpu opcode (bytes.below cpu.pc)))
+    (after_opcode_lem edition cpu opcode (bytes.below cpu.pc)))
 
 -- A run of any budget on a record that is not awake is the identity: the record as given, no step, memory and maps as they were.
 pub identity : (edition : Edition) (budget : ℕ) (cpu : Processor) (w : World) → is_awake cpu.state ≡ false

@@ -279,7 +279,7 @@ module _ (edition : Edition) (cpu : Processor) (opcode : ℕ) (h : opcode < 256)
   made-state b read =
       row_state b.opcode (rw read.0 h) b.operands ∙ rw (read.0, read.1)
 
-  pub after_opcode : Ends (In (state_after opcode cpu.state)) (after_opcode edition cpu opcode)
-  after_opcode =
+  pub after_opcode_lem : Ends (In (state_after opcode cpu.state)) (after_opcode edition cpu opcode)
+  after_opcode_lem =
       ends_then Read (In (state_after opcode cpu.state)) (read_for edition (produced (onward cpu) opcode)) (λ b. finish_of (made_of b)) read_stays
       (λ b read. subst (λ (s : State). Ends (In s) (finish_of (made_of b))) (made-state b read) (finish_stays (made_of b)))

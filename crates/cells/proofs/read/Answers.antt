@@ -1,12 +1,8 @@
 -- A first touch sets the cell's read mark; a later read leaves the cell.
 -- Assumes nothing.
-use native.Mathlib.Omega.{arith}
 use borrow.Author.Rules.{rules}
 use Rattle.cells.proofs.Laws.{first_read, later_read}
 use Rattle.cells.proofs.read.Goals as goal
-
-pub overflow_add-cells : goal.overflow_add-cells
-overflow_add-cells c = omega (arith, c.type_inv.cells c.args.at)
 
 pub returns-then-cell-eq0 : goal.returns-then-cell-eq0
 returns-then-cell-eq0 c = search (rules, first_read)
