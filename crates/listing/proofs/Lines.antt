@@ -1,6 +1,6 @@
 -- The lines of code bytes one after the other: how far a listing has come, and what one line more adds to it.
 -- Assumes nothing.
-use Rattle.std.proofs.Common.{◌≡◌, ℕ, zero, suc, ◌+◌, ◌-◌, ◌*◌, ◌%◌, ◌<◌, ◌≤◌, List, [], ◌∷◌, ◌++◌, length, get_or, take, drop, refl, ap, mod-lt, arith, length-append, length-drop, drop_of_length-le, drop-drop, take-add, w8, w16, w64, Fits}
+use Rattle.std.proofs.Common.{◌≡◌, ℕ, zero, suc, ◌+◌, ◌-◌, ◌%◌, ◌<◌, ◌≤◌, List, [], ◌∷◌, ◌++◌, length, get_or, take, drop, refl, ap, mod-lt, arith, length-append, length-drop, drop_of_length-le, drop-drop, take-add, w8, w16, w64, Fits}
 use lib.Seq.{take-append_seam, drop-append_seam}
 use Rattle.laws.specs.Bytes.{Bytes, bytes_drop}
 use Rattle.text.specs.Line.{blank, adds}

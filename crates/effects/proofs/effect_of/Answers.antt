@@ -2,7 +2,6 @@
 -- and an opcode of a column is in that column: both are computed over the table.
 -- Assumes nothing.
 use Rattle.std.proofs.Common.{ℕ, ◌/◌, List, [], ◌∷◌, refl, ⊎_elim, rules}
-use borrow.Author.Rules.{zero≤}
 use Rattle.instructions.specs.Rows.{Operation, rows}
 use Rattle.instructions.specs.Rows.Operation.{set1, clr1, bbs, bbc, call}
 use Rattle.instructions.specs.Effects.{effect_of}
@@ -12,6 +11,14 @@ use Rattle.instructions.specs.Families.{accumulator_group, pair_group, shift_gro
 use Rattle.effects.specs.Columns.{in_column}
 use Rattle.effects.proofs.Rows.{AllHave, named, left, named_row, left_row, named_test, left_test, low_five}
 use Rattle.effects.proofs.effect_of.Goals as goal
+use Rattle.effects.proofs.effect_of.Goals.{
+  in_default-via-then-this-lt16,
+  in_default-via-else-this-lt16+else-this-lt24+else-this-lt26,
+  then-this-lt8,
+  else-this-lt8+else-this-lt16+then-this-lt24,
+  in-9-1,
+  in_default+else-this-lt8+else-this-lt16+else-this-lt24+then-this-lt26,
+}
 
 -- what an opcode's top three bits pick
 abbrev family : (ℕ → Operation) → ℕ → Operands → Effect
@@ -61,10 +68,12 @@ pub compares_and_pops-requires : goal.compares_and_pops-requires
 compares_and_pops-requires c = search (named_test (14 ∷ 30 ∷ []) (in_column 14) tt)
 
 pub jumps_and_calls-requires : goal.jumps_and_calls-requires
-jumps_and_calls-requires c = ⊎_elim
-    (λ t. search (left_test others 8 16 (in_column 15) tt))
-    (λ t. search (low_five, left_test others 26 32 (in_column 15) tt))
-    c.in_default.branch
+jumps_and_calls-requires c =
+    elim c.in_default.branch [
+      | in_default-via-then-this-lt16 w ↦ search (left_test others 8 16 (in_column 15) tt)
+      | in_default-via-else-this-lt16+else-this-lt24+else-this-lt26 w ↦
+        search (low_five, left_test others 26 32 (in_column 15) tt)
+    ]
 
 pub returns-in-2 : goal.returns-in-2
 unfolding rows effect_of
@@ -95,15 +104,17 @@ unfolding rows effect_of
 returns-in-12 c = search (named_row (12 ∷ []) (family shift_group) refl)
 
 pub returns-in-4-to-7 : goal.returns-in-4-to-7
-returns-in-4-to-7 c = let met : tie.Joined1 = search in
-    ⊎_elim
-    (λ t. search (zero≤, left_row others 0 8 (family accumulator_group) accumulators.0))
-    (λ t. search (left_row others 16 24 (family accumulator_group) accumulators.1))
-    met.if1.came
+returns-in-4-to-7 c =
+    elim c.in-4-to-7-1.branch [
+      | then-this-lt8 w ↦ search (rules, left_row others 0 8 (family accumulator_group) accumulators.0)
+      | else-this-lt8+else-this-lt16+then-this-lt24 w ↦
+        search (left_row others 16 24 (family accumulator_group) accumulators.1)
+    ]
 
 pub returns-in-9 : goal.returns-in-9
-returns-in-9 c = let met : tie.At-match-branch = search in
-    ⊎_elim
-    (λ t. search (named_row (9 ∷ []) (family pair_group) paired.0))
-    (λ t. search (left_row others 24 26 (family pair_group) paired.1))
-    met.match.came
+returns-in-9 c =
+    elim c.in-9-1.branch [
+      | in-9-1 w ↦ search (named_row (9 ∷ []) (family pair_group) paired.0)
+      | in_default+else-this-lt8+else-this-lt16+else-this-lt24+then-this-lt26 w ↦
+        search (left_row others 24 26 (family pair_group) paired.1)
+    ]

@@ -1,6 +1,6 @@
 -- The line so far with the letters that are left behind it is always the first line with all the letters behind it.
 -- Assumes nothing.
-use Rattle.std.proofs.Common.{◌≡◌, ℕ, ◌+◌, ◌-◌, ◌<◌, ◌≤◌, List, length, get_or, drop, refl, ⊎_elim, add-one, arith, drop-cons, rules, ne_eqb}
+use Rattle.std.proofs.Common.{◌≡◌, ℕ, ◌+◌, ◌<◌, ◌≤◌, List, length, get_or, drop, refl, add-one, arith, drop-cons, rules, ne_eqb}
 use Prim.Native.Char.{code}
 use lib.Seq.{drop-length}
 use Rattle.text.specs.Line.{pushed, adds}

@@ -1,10 +1,7 @@
 -- The line so far with the letters that are left behind it is always the first line with all the letters behind it.
 -- Assumes nothing.
-use Rattle.std.proofs.Common.{◌≡◌, ℕ, ◌+◌, ◌-◌, ◌<◌, ◌≤◌, List, length, get_or, drop, refl, ⊎_elim, add-one, arith, drop-cons, rules, ne_eqb}
-use Prim.Native.Char.{code}
-use lib.Seq.{drop-length}
-use Rattle.text.specs.Line.{pushed, adds}
-use Rattle.text.specs.declared.Line.{Line}
+use Rattle.std.proofs.Common.{◌≡◌, ◌-◌, ◌≤◌, drop}
+use Rattle.text.specs.Line.{adds}
 use Rattle.listing.specs.Instruction.{letters}
 use Rattle.listing.proofs.name_on_line.Given as goal
 

@@ -1,7 +1,7 @@
 -- The bytes counted so far are those of the lines that stand for the code bytes passed so far.
 -- Assumes nothing.
-use Rattle.std.proofs.Common.{◌-◌, length, arith, rules}
-use Rattle.listing.proofs.Lines.{Upto, nothing_yet, all_done, done_fits, place_fits, bytes_fit, fewer_left, upto_next}
+use Rattle.std.proofs.Common.{arith, rules}
+use Rattle.listing.proofs.Lines.{nothing_yet, all_done, done_fits, place_fits, bytes_fit, fewer_left, upto_next}
 use Rattle.listing.proofs.program.measure.Goals as goal
 
 pub loop-at-init : goal.loop-at-init

@@ -8,7 +8,7 @@ use Rattle.opcode_data.proofs.Modes.on_line.Goals as goal
 
 pub returns-in-0 : goal.returns-in-0
 unfolding adds
-returns-in-0 c = rw c.in-0.keys1
+returns-in-0 c = rw c.in-0.is
 
 pub returns-in-1 : goal.returns-in-1
 returns-in-1 c = search (rules, only_first)

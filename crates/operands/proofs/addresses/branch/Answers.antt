@@ -1,6 +1,5 @@
 -- Taken, a fetch and the jump; else PC alone moves.
 -- Assumes nothing.
-use Rattle.std.proofs.Common.{rules}
 use Rattle.memory.proofs.Laws.{accesses}
 use Rattle.memory.specs.Access.{then}
 use Rattle.modes.specs.Branches.{branched}

@@ -1,6 +1,5 @@
 -- A fetch; `direct` places the byte.
 -- Assumes nothing.
-use Rattle.std.proofs.Common.{rules}
 use Rattle.memory.proofs.Laws.{accesses}
 use Rattle.modes.proofs.Same.{same}
 use Rattle.modes.specs.Modes.{direct}

@@ -1,6 +1,5 @@
 -- A read at PC.
 -- Assumes nothing.
-use Rattle.std.proofs.Common.{rules}
 use Rattle.memory.proofs.Laws.{accesses}
 use Rattle.modes.specs.Modes.{fetch}
 use Rattle.operands.proofs.addresses.fetch.Goals as goal

@@ -1,6 +1,6 @@
 -- Two fetches, the second behind the first.
 -- Assumes nothing.
-use Rattle.std.proofs.Common.{ap, rules}
+use Rattle.std.proofs.Common.{ap}
 use Rattle.memory.proofs.Laws.{chain, ends}
 use Rattle.modes.specs.Modes.{fetch_word}
 use Rattle.registers.specs.Flat.{record_of}

@@ -1,6 +1,5 @@
 -- The pointer at the indexed address.
 -- Assumes nothing.
-use Rattle.std.proofs.Common.{rules}
 use Rattle.memory.proofs.Laws.{accesses}
 use Rattle.modes.specs.Modes.{pointer_x}
 use Rattle.operands.proofs.addresses.idx.Goals as goal

@@ -1,6 +1,5 @@
 -- The pointer at the address, plus Y.
 -- Assumes nothing.
-use Rattle.std.proofs.Common.{rules}
 use Rattle.memory.proofs.Laws.{accesses}
 use Rattle.modes.specs.Modes.{pointer_y}
 use Rattle.operands.proofs.addresses.idy.Goals as goal

@@ -1,6 +1,5 @@
 -- Two reads, the second at the next address.
 -- Assumes nothing.
-use Rattle.std.proofs.Common.{rules}
 use Rattle.memory.proofs.Laws.{accesses}
 use Rattle.memory.specs.Words.{read_word}
 use Rattle.operands.proofs.addresses.read_u16.Goals as goal

@@ -1,6 +1,5 @@
 -- A store at SP, which then goes down.
 -- Assumes nothing.
-use Rattle.std.proofs.Common.{rules}
 use Rattle.memory.proofs.Laws.{accesses}
 use Rattle.modes.specs.Stack.{push}
 use Rattle.operands.proofs.stack.push.Goals as goal

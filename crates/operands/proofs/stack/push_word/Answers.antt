@@ -1,6 +1,5 @@
 -- Two pushes.
 -- Assumes nothing.
-use Rattle.std.proofs.Common.{rules}
 use Rattle.memory.proofs.Laws.{accesses}
 use Rattle.modes.specs.Stack.{push_word}
 use Rattle.operands.proofs.stack.push_word.Goals as goal

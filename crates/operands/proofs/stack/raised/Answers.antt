@@ -1,7 +1,6 @@
 -- SP one more, in eight bits.
 -- Assumes nothing.
-use Rattle.std.proofs.Common.{rules}
 use Rattle.operands.proofs.stack.raised.Goals as goal
 
 pub returns : goal.returns
-returns c = rw (c.with_sp.ensures, c.wrapping_add_u8.ensures)
+returns c = rw (c.with_sp.ensures, c.wrapping_add_u8.ensures.value)

@@ -1,6 +1,6 @@
 -- C is the sum's bit 8, H the low digits' bit 4, and V tells that both bytes differ from the sum in their top bits.
 -- Assumes nothing.
-use Rattle.std.proofs.Common.{◌≡◌, ℕ, ◌+◌, ◌/◌, ◌%◌, ◌^◌, ◌<◌, ◌≤◌, Bool, true, false, not, ◌&&◌, eqb, ltb, leb, sym, refl, ◌∙◌, arith, rules, le-ltb, lt-ltb, leb-false, leb-true}
+use Rattle.std.proofs.Common.{◌≡◌, ℕ, ◌+◌, ◌/◌, ◌%◌, ◌^◌, ◌<◌, ◌≤◌, Bool, true, false, not, ◌&&◌, eqb, ltb, leb, sym, refl, ◌∙◌, arith, le-ltb, lt-ltb, leb-false, leb-true}
 use mathlib.Core.Bool.{beq}
 use lib.Bits.{bit_and, bit_xor, and_shr, xor_shr, and_lt, xor_lt}
 use Rattle.psw.specs.Status.{one_if}

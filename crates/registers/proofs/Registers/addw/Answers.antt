@@ -1,6 +1,6 @@
 -- The definition's two halves: on the low bytes from the first carry, on the high bytes from there, then joined.
 -- Assumes nothing.
-use Rattle.std.proofs.Common.{false, rules}
+use Rattle.std.proofs.Common.{false}
 use Rattle.processor.specs.Record.{with_carry}
 use Rattle.processor.specs.Sums.{adc_of}
 use Rattle.registers.specs.Flat.{record_of}

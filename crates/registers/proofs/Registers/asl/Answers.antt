@@ -1,6 +1,6 @@
 -- To drop the top bit and double is to double and drop what passes eight bits; C is the top bit.
 -- Assumes nothing.
-use Rattle.std.proofs.Common.{◌≡◌, ◌+◌, ◌*◌, ◌%◌, arith, rules}
+use Rattle.std.proofs.Common.{◌≡◌, ◌+◌, ◌*◌, ◌%◌, arith}
 use Rattle.registers.proofs.Laws.{top_bit, carrying}
 use Rattle.registers.proofs.Registers.asl.Goals as goal
 

@@ -1,6 +1,6 @@
 -- C says whether the difference stays above zero: `bit_if` stores the definition's own test.
 -- Assumes nothing.
-use Rattle.std.proofs.Common.{◌%◌, eqb, leb, refl, rules}
+use Rattle.std.proofs.Common.{◌%◌, eqb, leb, refl}
 use Rattle.registers.proofs.Laws.{told, carried}
 use Rattle.registers.proofs.Registers.cmp.Goals as goal
 

@@ -1,6 +1,5 @@
 -- The difference is the definition's.
 -- Assumes nothing.
-use Rattle.std.proofs.Common.{rules}
 use Rattle.registers.proofs.Registers.dec.Goals as goal
 
 pub returns : goal.returns

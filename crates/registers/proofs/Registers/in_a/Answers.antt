@@ -1,6 +1,5 @@
 -- A is the byte in z, by the setter's own words.
 -- Assumes nothing.
-use Rattle.std.proofs.Common.{rules}
 use Rattle.registers.proofs.Registers.in_a.Goals as goal
 
 pub returns : goal.returns

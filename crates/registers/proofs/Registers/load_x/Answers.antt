@@ -1,6 +1,5 @@
 -- X is set first, and its change leaves N and Z to `nz`.
 -- Assumes nothing.
-use Rattle.std.proofs.Common.{rules}
 use Rattle.registers.proofs.Registers.load_x.Goals as goal
 
 pub returns : goal.returns

@@ -1,6 +1,5 @@
 -- A and Y are set first, and their change leaves N and Z to `nz_word`.
 -- Assumes nothing.
-use Rattle.std.proofs.Common.{rules}
 use Rattle.registers.proofs.Registers.load_ya.Goals as goal
 
 pub returns : goal.returns

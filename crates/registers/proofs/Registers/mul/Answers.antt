@@ -1,6 +1,5 @@
 -- The product that `times` gives, its low byte in A and its high byte in Y; N and Z are set of the high byte.
 -- Assumes nothing.
-use Rattle.std.proofs.Common.{rules}
 use Rattle.registers.proofs.Registers.mul.Goals as goal
 
 pub returns : goal.returns

@@ -1,6 +1,6 @@
 -- A word's top bit is its high byte's, and a word is zero where no bit of either byte is set.
 -- Assumes nothing.
-use Rattle.std.proofs.Common.{◌≡◌, ℕ, ◌+◌, ◌*◌, ◌<◌, Bool, true, false, eqb, leb, refl, arith, rules, eq-eqb, ne_eqb, eqb-true, le-leb, leb-false, leb-true}
+use Rattle.std.proofs.Common.{◌≡◌, ℕ, ◌+◌, ◌*◌, ◌<◌, Bool, true, false, eqb, leb, refl, arith, eq-eqb, ne_eqb, eqb-true, le-leb, leb-false, leb-true}
 use lib.Bits.{bit_or, or_add_and, and_le_l, and_le_r}
 use borrow.Author.Tests.{lt-leb, eqb-false}
 use Rattle.registers.proofs.Registers.nz_word.Goals as goal

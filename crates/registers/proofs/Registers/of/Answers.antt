@@ -1,10 +1,11 @@
 -- Each flag is told by the byte that is made of it, and the state by its number.
 -- Assumes nothing.
-use Rattle.std.proofs.Common.{◌≡◌, ◌+◌, ◌/◌, ◌%◌, Bool, true, false, cond, not, eqb, leb, refl, ⊎_elim, rules}
+use Rattle.std.proofs.Common.{◌≡◌, ◌+◌, ◌/◌, ◌%◌, Bool, true, false, cond, not, eqb, leb, refl}
 use Rattle.waking.specs.Theorems.{number_and_back}
 use Rattle.psw.specs.Status.{bit_of}
 use Rattle.registers.proofs.Laws.{told}
 use Rattle.registers.proofs.Registers.of.Goals as goal
+use Rattle.registers.proofs.Registers.of.Goals.{then-psw, else-psw}
 
 -- a byte that is 1 unless a flag is set
 unless : (flag : Bool) → eqb (cond (not flag) 1 0) 0 ≡ flag
@@ -22,7 +23,7 @@ pub returns : goal.returns
 returns c = let cpu = c.args.cpu in
     let f = cpu.psw in
     let chosen = c.if-psw in
-    let page : chosen.t22 ≡ cond f.p 256 0 = ⊎_elim (λ w. rw w.0.taken w.1) (λ w. rw w.0.left w.1) chosen.branch in
+    let page : chosen.result ≡ cond f.p 256 0 = elim chosen.branch [ then-psw w ↦ rw w.if-psw.true w.result-is | else-psw w ↦ rw w.if-psw.false w.result-is ] in
     rw (
       c.bit_if.ensures.0,
       c.bit_if-2.ensures.0,

@@ -1,6 +1,5 @@
 -- The sum that wraps is the definition's.
 -- Assumes nothing.
-use Rattle.std.proofs.Common.{rules}
 use Rattle.registers.proofs.Registers.past.Goals as goal
 
 pub returns : goal.returns

@@ -1,6 +1,6 @@
 -- As for `asl`; the old carry's bit comes in below.
 -- Assumes nothing.
-use Rattle.std.proofs.Common.{◌≡◌, ◌+◌, ◌*◌, ◌%◌, arith, rules}
+use Rattle.std.proofs.Common.{◌≡◌, ◌+◌, ◌*◌, ◌%◌, arith}
 use Rattle.registers.proofs.Laws.{bit_number_lem, top_bit, carrying}
 use Rattle.registers.proofs.Registers.rol.Goals as goal
 

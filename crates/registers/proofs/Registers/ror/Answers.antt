@@ -1,6 +1,6 @@
 -- As for `lsr`; the old carry's bit comes in above.
 -- Assumes nothing.
-use Rattle.std.proofs.Common.{refl, rules}
+use Rattle.std.proofs.Common.{refl}
 use Rattle.registers.proofs.Laws.{bit_number_lem, carrying}
 use Rattle.registers.proofs.Registers.ror.Goals as goal
 

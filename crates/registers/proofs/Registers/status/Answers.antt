@@ -1,6 +1,6 @@
 -- Each flag as a number, times the value of its bit, is the code's term for it.
 -- Assumes nothing.
-use Rattle.std.proofs.Common.{◌≡◌, ◌*◌, ◌/◌, Bool, true, false, cond, eqb, refl, arith, rules}
+use Rattle.std.proofs.Common.{◌≡◌, ◌*◌, ◌/◌, Bool, true, false, cond, eqb, refl, arith}
 use Rattle.psw.specs.Status.{one_if, byte_of}
 use Rattle.registers.proofs.Laws.{bit_number_lem, top_number}
 use Rattle.registers.proofs.Registers.status.Goals as goal

@@ -1,6 +1,6 @@
 -- V and H are stored as the definition's own tests of the old values; N and Z are those of the quotient, by `load_a`.
 -- Assumes nothing.
-use Rattle.std.proofs.Common.{◌%◌, leb, refl, rules}
+use Rattle.std.proofs.Common.{◌%◌, leb, refl}
 use Rattle.psw.specs.Status.{bit_of}
 use Rattle.registers.proofs.Laws.{told, overflown}
 use Rattle.registers.proofs.Registers.with_quotient.Goals as goal

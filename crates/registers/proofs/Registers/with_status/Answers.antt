@@ -1,6 +1,6 @@
 -- Each flag stands in its place of the byte, or of its double, or of eight times it: one computed test over all 256 bytes.
 -- Assumes nothing.
-use Rattle.std.proofs.Common.{◌≡◌, ℕ, ◌-◌, ◌*◌, ◌/◌, ◌%◌, ◌<◌, refl, arith, rules}
+use Rattle.std.proofs.Common.{◌≡◌, ℕ, ◌-◌, ◌*◌, ◌/◌, ◌%◌, ◌<◌, refl, arith}
 use Rattle.laws.specs.Table.{same_table}
 use Rattle.psw.specs.Status.{flags_of}
 use Rattle.registers.specs.declared.Registers.{Registers}
