@@ -1,11 +1,15 @@
 -- What the loop has done so far, on what registers and cells stand for, is the run of as many steps.
 -- Assumes nothing.
-use Rattle.std.proofs.Common.{refl, arith, rules}
+use Rattle.std.proofs.Common.{◌≡◌, ℕ, zero, suc, ◌<◌, ◌≤◌, refl, arith, rules}
 use Rattle.instructions.proofs.SoFar.{begun, one_more, resting, spent}
 use Rattle.cells.proofs.Laws.{sized}
 use Rattle.long_runs.proofs.Laws.{is_awake_lem, is_resting}
 use Rattle.long_runs.proofs.take_steps.Goals as goal
-use Rattle.long_runs.proofs.take_steps.Goals.{then-loop-left-test+else-next-eq0, else-loop-left-test}
+
+-- Where steps are over while budget is left, the record is not awake; else the budget is spent.
+over_by : {P : Type 0} (left stop : ℕ) → (0 < left → stop ≡ 0 → ⊥) → ((stop ≡ 0 → ⊥) → P) → (left ≤ 0 → P) → P
+over_by zero stop over f g = g (omega arith)
+over_by (suc k) stop over f g = f (over (omega arith))
 
 pub loop-left-init : goal.loop-left-init
 loop-left-init c = (begun (sized _), c.requires)
@@ -21,7 +25,7 @@ loop-left-smaller c = omega (arith, c.loop-left-test.true)
 
 pub loop-left-preserved : goal.loop-left-preserved
 loop-left-preserved c = let before = c.loop-left in (
-  one_more before.invariant.0 c.loop-left-test.true (is_awake_lem before.next.stop c.if-next-eq0.true) refl
+  one_more before.invariant.0 c.loop-left-test.true (is_awake_lem before.next.stop (omega arith)) refl
       c.instruction-next.ensures,
   search (rules, before.invariant.1),
 )
@@ -31,7 +35,7 @@ overflow_sub-result c = omega (arith, c.loop-left.invariant.0.within)
 
 pub returns : goal.returns
 returns c = let before = c.loop-left in
-    elim c.loop-left-test.branch [
-      | then-loop-left-test+else-next-eq0 w ↦ resting before.invariant.0 (is_resting before.next.stop w.if-next-eq0.false) refl
-      | else-loop-left-test w ↦ spent before.invariant.0 (search (rules, w.loop-left-test.false))
-    ]
+    let over : 0 < before.left → before.next.stop ≡ 0 → ⊥ = λ h e. grind arith in
+    over_by before.left before.next.stop over
+    (λ n. resting before.invariant.0 (is_resting before.next.stop n) refl)
+    (λ none. spent before.invariant.0 none)
