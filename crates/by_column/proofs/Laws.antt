@@ -1,7 +1,6 @@
--- How what a row reads and what it makes of that go together, and which row an arm of a `match` is.
+-- How what a row reads and what it makes of that go together, and the rows of a column.
 -- Assumes nothing.
-use Rattle.std.proofs.Common.{◌≡◌, ℕ, zero, suc, ◌-◌, ◌*◌, ◌/◌, ◌%◌, ◌<◌, Bool, false, cond, not, T, eqb, List, [], ◌∷◌, refl, ap, ◌∙◌, arith, eqb→eq, ne_eqb}
-use Rattle.laws.specs.Dispatch.{NoneIn, none_then}
+use Rattle.std.proofs.Common.{◌≡◌, ℕ, zero, suc, ◌-◌, ◌*◌, ◌/◌, ◌%◌, ◌<◌, Bool, false, cond, not, T, eqb, refl, ap, ◌∙◌, arith, ne_eqb}
 use Rattle.laws.specs.Table.{table_of, where_same}
 use Rattle.memory.specs.World.{World}
 use Rattle.memory.specs.Access.Access.{done}
@@ -12,14 +11,12 @@ use Rattle.processor.specs.Record.{with_a, produced}
 use Rattle.processor.specs.declared.Processor.{Processor}
 use Rattle.processor.specs.declared.Produced.{Produced}
 use Rattle.modes.specs.Stack.{pull, raised}
-use Rattle.instructions.specs.Rows.{Operation, Mode, Row, row, row_of}
+use Rattle.instructions.specs.Rows.{Operation, Mode, row, row_of}
 use Rattle.instructions.specs.Rows.Operation.{nop}
 use Rattle.instructions.specs.Rows.Mode.{implied}
 use Rattle.instructions.specs.Gather.{gather_of}
-use Rattle.instructions.specs.Effects.{registers, effect}
 use Rattle.instructions.specs.Step.{commit_of, branch_of, finish_of}
 use Rattle.instructions.specs.declared.Effect.{Effect}
-use Rattle.instructions.specs.declared.Stores.{Stores}
 use Rattle.instructions.specs.declared.Stores.TheVariants.{Nothing, Byte}
 use Rattle.registers.specs.Flat.{record_of, Makes}
 use Rattle.registers.specs.declared.Registers.{Registers}
@@ -75,13 +72,6 @@ pub by_table : (column : ℕ) (p : ℕ → Bool) (operations : ℕ → Operation
     → Does (row_does edition (opcode_at column k) cpu) w q
 by_table column p operations mode e edition cpu {k} h t f =
     rw (where_same 8 p (row nop implied) (λ k. row_of (opcode_at column k)) (λ k. row (operations k) mode) e k h t) f
-
--- The last arm: a row that is none of the others.
-abbrev pub others : List (List ℕ)
-others = (6 ∷ []) ∷ (5 ∷ []) ∷ (4 ∷ []) ∷ (3 ∷ []) ∷ (2 ∷ []) ∷ (1 ∷ []) ∷ (0 ∷ []) ∷ []
-
-pub seventh : {k : ℕ} → k < 8 → NoneIn others k → k ≡ 7
-seventh {k} h none = eqb→eq k 7 (none_then 8 (λ j. eqb j 7) (λ j. j) others k h none tt)
 
 -- a number that is none of the others passes the test that it is not
 pub is_not : (n : ℕ) {k : ℕ} → (k ≡ n → ⊥) → T (not (eqb k n))

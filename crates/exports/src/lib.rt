@@ -179,7 +179,7 @@ pub extern "C" fn spc700_file_write(file: &mut [u8], registers: &[u8], memory: &
 // 66,048 bytes.
 #[unsafe(no_mangle)]
 pub extern "C" fn spc700_file_from_record(file: &mut [u8], record: &[u8]) -> u64
-    ensures { Fills (file_from_record_call «(shared record)».now) (lent file) result }
+    ensures { Fills (file_from_record_call «record».now) (lent file) result }
 {
     packed(conversion::file_from_record(file, record), 0, 0)
 }
@@ -188,7 +188,7 @@ pub extern "C" fn spc700_file_from_record(file: &mut [u8], record: &[u8]) -> u64
 // unnamed byte that is not its default.
 #[unsafe(no_mangle)]
 pub extern "C" fn spc700_record_from_file(record: &mut [u8], file: &[u8]) -> u64
-    ensures { Fills (record_from_file_call file.now) «(lent record)» result }
+    ensures { Fills (record_from_file_call file.now) (lent «record») result }
 {
     packed(conversion::record_from_file(record, file), 0, 0)
 }

@@ -30,7 +30,7 @@ fn refusal_of(file: &[u8]) -> u8
         return 7;
     }
     let signature = SIGNATURE;
-    if file[..33] == signature {
+    if file[..33] == signature[..] {
         return 0;
     }
     8

@@ -1,6 +1,6 @@
 -- Row 6 stores A where X leads; in the others the byte there is read, and A with it is what the row picks.
 -- Assumes nothing.
-use Rattle.std.proofs.Common.{refl, ap, rules}
+use Rattle.std.proofs.Common.{refl, ap}
 use Rattle.memory.proofs.Laws.{ends_at}
 use Rattle.memory.specs.Access.Access.{done}
 use Rattle.memory.specs.Access.{then}

@@ -1,6 +1,6 @@
 -- The operand byte is read; row 6 compares X with it, and in the others A with it is what the row picks.
 -- Assumes nothing.
-use Rattle.std.proofs.Common.{not, eqb, refl, rules}
+use Rattle.std.proofs.Common.{not, eqb, refl}
 use Rattle.memory.proofs.Laws.{ends_at}
 use Rattle.memory.specs.Access.{then}
 use Rattle.instructions.specs.Effects.{effect_of}

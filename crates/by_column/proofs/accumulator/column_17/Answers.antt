@@ -1,6 +1,6 @@
 -- Row 6 stores A where the mode leads; in the others the byte there is read, and A with it is what the row picks.
 -- Assumes nothing.
-use Rattle.std.proofs.Common.{refl, ap, rules}
+use Rattle.std.proofs.Common.{refl, ap}
 use Rattle.instructions.specs.Effects.{effect_of}
 use Rattle.instructions.specs.Gather.{gather_of}
 use Rattle.instructions.specs.Rows.Mode.{pointer_y}

@@ -1,6 +1,6 @@
 -- The byte is read and stored with the bit set whose number is the row.
 -- Assumes nothing.
-use Rattle.std.proofs.Common.{true, refl, arith, rules}
+use Rattle.std.proofs.Common.{true, refl, arith}
 use Rattle.memory.proofs.Laws.{read_then, ends}
 use Rattle.memory.specs.Access.{then}
 use Rattle.instructions.specs.Effects.{effect_of}
@@ -21,5 +21,5 @@ returns c = λ edition. rw c.past.ensures
     (found_then _ _ _
     c.d_off-at.ensures
     (read_then c.read-v.ensures
-    (put_as (rw (named 0x02 _ (omega arith) c.value_of_lem.ensures.0) at
+    (put_as (rw (named 0x02 _ (omega arith) c.value_of.ensures.0) at
     c.with_bit.ensures) c.store.ensures ends))))

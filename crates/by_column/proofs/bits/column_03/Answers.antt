@@ -1,6 +1,6 @@
 -- The branch is taken where the bit is set whose number is the row.
 -- Assumes nothing.
-use Rattle.std.proofs.Common.{true, refl, arith, rules}
+use Rattle.std.proofs.Common.{true, refl, arith}
 use Rattle.memory.proofs.Laws.{read_then}
 use Rattle.memory.specs.Access.{then}
 use Rattle.instructions.specs.Effects.{effect_of}
@@ -23,6 +23,6 @@ returns c = λ edition.
     (rw (
       c.past.ensures,
       rw
-          (named 0x03 _ (omega arith) c.value_of_lem.ensures.0) at
+          (named 0x03 _ (omega arith) c.value_of.ensures.0) at
           c.has_bit.ensures,
     ) at c.branch-past.ensures)))

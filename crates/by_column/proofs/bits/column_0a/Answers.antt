@@ -34,7 +34,7 @@ returns-then-row-eq6 c = λ edition. rw (
     c.fetch_u16-word.ensures ends)
     (read_then c.read-v.ensures
     (put_as
-    (rw c.value_of_lem.ensures.0 at
+    (rw c.value_of-bit.ensures.0 at
     c.with_bit.ensures) c.store.ensures ends))))
 
 pub returns-then-row-eq7 : goal.returns-then-row-eq7
@@ -48,7 +48,7 @@ returns-then-row-eq7 c = λ edition. rw (
     (chain _
     c.fetch_u16-word.ensures ends)
     (read_then c.read-v.ensures
-    (rw (← c.value_of_lem.ensures.0)
+    (rw (← c.value_of-bit.ensures.0)
     (put_then c.store-then-row-eq7.ensures ends)))))
 
 pub returns : goal.returns
@@ -67,5 +67,5 @@ returns c = λ edition.
     ((rw (
       c.past-next.ensures,
       c.past.ensures,
-      c.value_of_lem.ensures.0,
+      c.value_of-bit.ensures.0,
     ) at c.carry_with.ensures) _ _ _))))

@@ -1,6 +1,6 @@
 -- One shifted by at most seven places stays below 256.
 -- Assumes nothing.
-use Rattle.std.proofs.Common.{◌^◌, ◌<◌, mod-eq_of_lt, one-mul, arith, rules}
+use Rattle.std.proofs.Common.{◌^◌, ◌<◌, mod-eq_of_lt, one-mul, arith}
 use lib.Pow.{pow-lt}
 use Rattle.by_column.proofs.bits.value_of.Goals as goal
 

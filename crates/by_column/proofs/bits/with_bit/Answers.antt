@@ -1,6 +1,5 @@
 -- A branch of the test says which the byte is.
 -- Assumes nothing.
-use Rattle.std.proofs.Common.{rules}
 use Rattle.by_column.proofs.bits.with_bit.Goals as goal
 
 pub returns-then-on : goal.returns-then-on

@@ -1,6 +1,5 @@
 -- The row picks the flag that the branch is taken by.
 -- Assumes nothing.
-use Rattle.std.proofs.Common.{rules}
 use Rattle.by_column.proofs.Valued.{branch_rows}
 use Rattle.by_column.proofs.flags.column_10.Goals as goal
 

@@ -1,6 +1,5 @@
 -- The vector, PC and the old flags pushed, and then it is the vector's address.
 -- Assumes nothing.
-use Rattle.std.proofs.Common.{rules}
 use Rattle.memory.proofs.Laws.{ends}
 use Rattle.memory.specs.Access.{then}
 use Rattle.instructions.specs.Effects.{effect_of}

@@ -1,6 +1,5 @@
 -- PC is pushed, and then it is the address.
 -- Assumes nothing.
-use Rattle.std.proofs.Common.{rules}
 use Rattle.memory.proofs.Laws.{chain, ends}
 use Rattle.modes.specs.Stack.{called}
 use Rattle.by_column.proofs.jumps.call.Goals as goal

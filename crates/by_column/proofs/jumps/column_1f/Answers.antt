@@ -1,43 +1,43 @@
 -- Each row is a function of its own, or needs no memory.
 -- Assumes nothing.
-use Rattle.std.proofs.Common.{rules}
+use Rattle.std.proofs.Common.{arith, ◌≡◌}
 use Rattle.memory.proofs.Laws.{ends, ends_at}
 use Rattle.memory.specs.Access.{then}
 use Rattle.instructions.specs.Effects.{effect_of}
 use Rattle.instructions.specs.Gather.{gather_of, loaded}
 use Rattle.instructions.specs.Rows.{rows}
 use Rattle.instructions.specs.Step.{branch_of, commit_of, finish_of}
-use Rattle.by_column.proofs.Laws.{at_row, seventh}
+use Rattle.by_column.proofs.Laws.{at_row}
 use Rattle.by_column.proofs.jumps.column_1f.Goals as goal
 
 pub returns-in-0 : goal.returns-in-0
 unfolding rows gather_of loaded effect_of finish_of commit_of branch_of then
-returns-in-0 c = λ edition. at_row edition 0x1F 0 _ c.in-0.keys1 (c.jump_by.ensures edition)
+returns-in-0 c = λ edition. at_row edition 0x1F 0 _ c.in-0.is (c.jump_by.ensures edition)
 
 pub returns-in-1 : goal.returns-in-1
 unfolding rows gather_of loaded effect_of finish_of commit_of branch_of then
-returns-in-1 c = λ edition. at_row edition 0x1F 1 _ c.in-1.keys2 (c.call_to.ensures edition)
+returns-in-1 c = λ edition. at_row edition 0x1F 1 _ c.in-1.is (c.call_to.ensures edition)
 
 pub returns-in-2 : goal.returns-in-2
 unfolding rows gather_of loaded effect_of finish_of commit_of branch_of then
-returns-in-2 c = λ edition. at_row edition 0x1F 2 _ c.in-2.keys3 (c.jump_to.ensures edition)
+returns-in-2 c = λ edition. at_row edition 0x1F 2 _ c.in-2.is (c.jump_to.ensures edition)
 
 pub returns-in-3 : goal.returns-in-3
 unfolding rows gather_of loaded effect_of finish_of commit_of branch_of then
-returns-in-3 c = λ edition. at_row edition 0x1F 3 _ c.in-3.keys4 (c.reti.ensures edition)
+returns-in-3 c = λ edition. at_row edition 0x1F 3 _ c.in-3.is (c.reti.ensures edition)
 
 pub returns-in-4 : goal.returns-in-4
 unfolding rows gather_of loaded effect_of finish_of commit_of branch_of then
-returns-in-4 c = λ edition. at_row edition 0x1F 4 _ c.in-4.keys5 (ends_at c.xcn.ensures)
+returns-in-4 c = λ edition. at_row edition 0x1F 4 _ c.in-4.is (ends_at c.xcn.ensures)
 
 pub returns-in-5 : goal.returns-in-5
 unfolding rows gather_of loaded effect_of finish_of commit_of branch_of then
-returns-in-5 c = λ edition. at_row edition 0x1F 5 _ c.in-5.keys6 (c.load_and_raise.ensures edition)
+returns-in-5 c = λ edition. at_row edition 0x1F 5 _ c.in-5.is (c.load_and_raise.ensures edition)
 
 pub returns-in-6 : goal.returns-in-6
 unfolding rows gather_of loaded effect_of finish_of commit_of branch_of then
-returns-in-6 c = λ edition. at_row edition 0x1F 6 _ c.in-6.keys7 (ends_at c.daa.ensures)
+returns-in-6 c = λ edition. at_row edition 0x1F 6 _ c.in-6.is (ends_at c.daa.ensures)
 
 pub returns-in_default : goal.returns-in_default
 unfolding rows gather_of loaded effect_of finish_of commit_of branch_of then
-returns-in_default c = λ edition. at_row edition 0x1F 7 _ (seventh (search rules) c.in_default.rest) (rw c.with_stop.ensures ends)
+returns-in_default c = λ edition. let row : c.args.row ≡ 7 = omega arith in at_row edition 0x1F 7 _ row (rw c.with_stop.ensures ends)

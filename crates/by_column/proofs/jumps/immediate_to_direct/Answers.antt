@@ -1,6 +1,5 @@
 -- The operand byte is stored at the second one's address.
 -- Assumes nothing.
-use Rattle.std.proofs.Common.{rules}
 use Rattle.memory.proofs.Laws.{ends, put_then}
 use Rattle.memory.specs.Access.{then}
 use Rattle.instructions.specs.Effects.{effect_of}

@@ -1,6 +1,5 @@
 -- PC is the word at the indexed address.
 -- Assumes nothing.
-use Rattle.std.proofs.Common.{rules}
 use Rattle.memory.proofs.Laws.{chain, ends}
 use Rattle.memory.specs.Access.{then}
 use Rattle.modes.specs.Modes.{absolute_pointer}

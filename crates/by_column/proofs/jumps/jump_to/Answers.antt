@@ -1,6 +1,5 @@
 -- PC is the operand word.
 -- Assumes nothing.
-use Rattle.std.proofs.Common.{rules}
 use Rattle.memory.proofs.Laws.{ends}
 use Rattle.memory.specs.Access.{then}
 use Rattle.instructions.specs.Effects.{effect_of}

@@ -1,6 +1,6 @@
 -- Two pulls, and PC is their word.
 -- Assumes nothing.
-use Rattle.std.proofs.Common.{ap, ◌∙◌, rules}
+use Rattle.std.proofs.Common.{ap, ◌∙◌}
 use Rattle.memory.proofs.Laws.{chain, ends, ends_at}
 use Rattle.memory.specs.Access.{then}
 use Rattle.processor.specs.Record.{with_pc}

@@ -1,6 +1,6 @@
 -- The operand byte, in X.
 -- Assumes nothing.
-use Rattle.std.proofs.Common.{ap, rules}
+use Rattle.std.proofs.Common.{ap}
 use Rattle.memory.proofs.Laws.{ends_at}
 use Rattle.memory.specs.Access.{then}
 use Rattle.modes.specs.Addresses.{onward}

@@ -1,6 +1,6 @@
 -- The last two rows move X; in the others both operands are found, the source is read, and the row does the rest.
 -- Assumes nothing.
-use Rattle.std.proofs.Common.{refl, ap, rules}
+use Rattle.std.proofs.Common.{refl, ap}
 use Rattle.memory.proofs.Laws.{read_at_lem}
 use Rattle.memory.specs.Access.{then}
 use Rattle.instructions.specs.Effects.{effect_of}

@@ -1,6 +1,5 @@
 -- The target is read; row 3 compares, and the others store what the row makes of both.
 -- Assumes nothing.
-use Rattle.std.proofs.Common.{rules}
 use Rattle.memory.proofs.Laws.{read_then, ends_at}
 use Rattle.memory.specs.Access.{then}
 use Rattle.instructions.specs.Effects.{effect_of}
@@ -16,6 +15,6 @@ returns-then-row-eq3 c = rw c.if-row-eq3.true (read_then c.read-target.ensures (
 pub returns : goal.returns
 unfolding then
 returns c = read_then c.read-target.ensures
-    (byte_stored (c.combine-next.ensures.1 0 _) (straight_pair
+    (byte_stored (c.combine-next.ensures.stores_byte 0 _) (straight_pair
     c.requires.row_bound _ _)
-    (c.combine-next.ensures.0 0 _ _) c.store.ensures)
+    (c.combine-next.ensures.leaves 0 _ _) c.store.ensures)

@@ -1,6 +1,6 @@
 -- Row 6 stores X unread; row 7 reads the byte and takes it into X.
 -- Assumes nothing.
-use Rattle.std.proofs.Common.{◌≡◌, arith, rules}
+use Rattle.std.proofs.Common.{◌≡◌, arith}
 use Rattle.memory.proofs.Laws.{read_then, put_then, ends, ends_at}
 use Rattle.memory.specs.Access.{then}
 use Rattle.instructions.specs.Effects.{effect_of}

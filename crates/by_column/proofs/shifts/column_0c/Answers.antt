@@ -1,6 +1,6 @@
 -- Row 6 stores Y where the mode leads. The others read the byte there: row 7 takes it into Y, the rest store what the row makes of it.
 -- Assumes nothing.
-use Rattle.std.proofs.Common.{refl, ap, rules}
+use Rattle.std.proofs.Common.{refl, ap}
 use Rattle.instructions.specs.Effects.{effect_of}
 use Rattle.instructions.specs.Gather.{gather_of}
 use Rattle.instructions.specs.Rows.Mode.{absolute}
@@ -25,7 +25,7 @@ returns-then-row-eq7 c = λ edition. at_row edition 0x0C 7 _ c.if-row-eq7.true
     (ap record_of (rw c.past.ensures
     at c.past-behind.ensures)) c.read-v.ensures
     (λ _ _. (refl, refl))
-    (rw c.if-row-eq7.true at c.shift-next.ensures.0))
+    (rw c.if-row-eq7.true at c.shift-next.ensures.leaves))
 
 pub returns : goal.returns
 unfolding rows gather_of
@@ -37,5 +37,5 @@ returns c = λ edition. shifts 0x0C absolute refl edition _ _ refl
     (ap record_of (rw c.past.ensures
     at c.past-behind.ensures))
     c.read-v.ensures
-    c.shift-next.ensures.0 c.shift-next.ensures.1
+    c.shift-next.ensures.leaves c.shift-next.ensures.stores_byte
     c.store-2.ensures

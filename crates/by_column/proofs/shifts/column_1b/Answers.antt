@@ -1,6 +1,6 @@
 -- Row 6 stores Y where the mode leads. The others read the byte there: row 7 takes it into Y, the rest store what the row makes of it.
 -- Assumes nothing.
-use Rattle.std.proofs.Common.{refl, ap, rules}
+use Rattle.std.proofs.Common.{refl, ap}
 use Rattle.instructions.specs.Effects.{effect_of}
 use Rattle.instructions.specs.Gather.{gather_of}
 use Rattle.instructions.specs.Rows.Mode.{direct_x}
@@ -23,7 +23,7 @@ returns-then-row-eq7 c = λ edition. at_row edition 0x1B 7 _ c.if-row-eq7.true
     (loads _ load_y 0 c.d_off-at.ensures (ap record_of
     c.past-behind.ensures) c.read-v.ensures
     (λ _ _. (refl, refl))
-    (rw c.if-row-eq7.true at c.shift-next.ensures.0))
+    (rw c.if-row-eq7.true at c.shift-next.ensures.leaves))
 
 pub returns : goal.returns
 unfolding rows gather_of
@@ -34,5 +34,5 @@ returns c = λ edition. shifts 0x1B direct_x refl edition _ _ refl
     c.d_off-at.ensures
     (ap record_of c.past-behind.ensures)
     c.read-v.ensures
-    c.shift-next.ensures.0 c.shift-next.ensures.1
+    c.shift-next.ensures.leaves c.shift-next.ensures.stores_byte
     c.store-2.ensures

@@ -1,42 +1,42 @@
 -- Each row is a function of its own.
 -- Assumes nothing.
-use Rattle.std.proofs.Common.{rules}
+use Rattle.std.proofs.Common.{arith, ◌≡◌}
 use Rattle.memory.specs.Access.{then}
 use Rattle.instructions.specs.Effects.{effect_of}
 use Rattle.instructions.specs.Gather.{gather_of, loaded}
 use Rattle.instructions.specs.Rows.{rows}
 use Rattle.instructions.specs.Step.{branch_of, commit_of, finish_of}
-use Rattle.by_column.proofs.Laws.{at_row, seventh}
+use Rattle.by_column.proofs.Laws.{at_row}
 use Rattle.by_column.proofs.tests.column_0e.Goals as goal
 
 pub returns-in-0 : goal.returns-in-0
 unfolding rows gather_of loaded effect_of finish_of commit_of branch_of then
-returns-in-0 c = λ edition. at_row edition 0x0E 0 _ c.in-0.keys1 (c.tset.ensures edition)
+returns-in-0 c = λ edition. at_row edition 0x0E 0 _ c.in-0.is (c.tset.ensures edition)
 
 pub returns-in-1 : goal.returns-in-1
 unfolding rows gather_of loaded effect_of finish_of commit_of branch_of then
-returns-in-1 c = λ edition. at_row edition 0x0E 1 _ c.in-1.keys2 c.cbne.ensures
+returns-in-1 c = λ edition. at_row edition 0x0E 1 _ c.in-1.is c.cbne.ensures
 
 pub returns-in-2 : goal.returns-in-2
 unfolding rows gather_of loaded effect_of finish_of commit_of branch_of then
-returns-in-2 c = λ edition. at_row edition 0x0E 2 _ c.in-2.keys3 (c.tclr.ensures edition)
+returns-in-2 c = λ edition. at_row edition 0x0E 2 _ c.in-2.is (c.tclr.ensures edition)
 
 pub returns-in-3 : goal.returns-in-3
 unfolding rows gather_of loaded effect_of finish_of commit_of branch_of then
-returns-in-3 c = λ edition. at_row edition 0x0E 3 _ c.in-3.keys4 (c.dbnz_memory.ensures edition)
+returns-in-3 c = λ edition. at_row edition 0x0E 3 _ c.in-3.is (c.dbnz_memory.ensures edition)
 
 pub returns-in-4 : goal.returns-in-4
 unfolding rows gather_of loaded effect_of finish_of commit_of branch_of then
-returns-in-4 c = λ edition. at_row edition 0x0E 4 _ c.in-4.keys5 (c.pop_psw.ensures edition)
+returns-in-4 c = λ edition. at_row edition 0x0E 4 _ c.in-4.is (c.pop_psw.ensures edition)
 
 pub returns-in-5 : goal.returns-in-5
 unfolding rows gather_of loaded effect_of finish_of commit_of branch_of then
-returns-in-5 c = λ edition. at_row edition 0x0E 5 _ c.in-5.keys6 (c.pop_a.ensures edition)
+returns-in-5 c = λ edition. at_row edition 0x0E 5 _ c.in-5.is (c.pop_a.ensures edition)
 
 pub returns-in-6 : goal.returns-in-6
 unfolding rows gather_of loaded effect_of finish_of commit_of branch_of then
-returns-in-6 c = λ edition. at_row edition 0x0E 6 _ c.in-6.keys7 (c.pop_x.ensures edition)
+returns-in-6 c = λ edition. at_row edition 0x0E 6 _ c.in-6.is (c.pop_x.ensures edition)
 
 pub returns-in_default : goal.returns-in_default
 unfolding rows gather_of loaded effect_of finish_of commit_of branch_of then
-returns-in_default c = λ edition. at_row edition 0x0E 7 _ (seventh (search rules) c.in_default.rest) (c.pop_y.ensures edition)
+returns-in_default c = λ edition. let row : c.args.row ≡ 7 = omega arith in at_row edition 0x0E 7 _ row (c.pop_y.ensures edition)

@@ -1,6 +1,6 @@
 -- A comparison with the byte at the operand word.
 -- Assumes nothing.
-use Rattle.std.proofs.Common.{ap, rules}
+use Rattle.std.proofs.Common.{ap}
 use Rattle.memory.proofs.Laws.{ends_at, read_then}
 use Rattle.memory.specs.Access.{then}
 use Rattle.modes.specs.Addresses.{onward}

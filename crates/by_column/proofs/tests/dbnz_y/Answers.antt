@@ -1,6 +1,5 @@
 -- Y less one, and then the branch.
 -- Assumes nothing.
-use Rattle.std.proofs.Common.{rules}
 use Rattle.memory.specs.Access.{then}
 use Rattle.instructions.specs.Effects.{effect_of}
 use Rattle.instructions.specs.Gather.{gather_of, loaded}

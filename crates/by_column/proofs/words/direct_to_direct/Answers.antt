@@ -1,6 +1,5 @@
 -- The source's address, the target's, then a read at the first and a store at the second.
 -- Assumes nothing.
-use Rattle.std.proofs.Common.{rules}
 use Rattle.memory.proofs.Laws.{ends, read_then, put_then}
 use Rattle.memory.specs.Access.{then}
 use Rattle.instructions.specs.Effects.{effect_of}

@@ -34,7 +34,7 @@ returns c = rw c.past.ensures
     c.read-high.ensures
     (rw (
       ← c.word.ensures,
-      ← c.wrapping_add_u16-word.ensures,
+      ← c.wrapping_add_u16-word.ensures.value,
     )
     (put_at
     c.direct-at.ensures

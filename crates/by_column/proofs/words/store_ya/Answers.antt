@@ -1,6 +1,5 @@
 -- A and Y are stored, low byte first.
 -- Assumes nothing.
-use Rattle.std.proofs.Common.{rules}
 use Rattle.memory.proofs.Laws.{chain, ends, put_at}
 use Rattle.memory.specs.Access.{then}
 use Rattle.modes.specs.Modes.{direct_word}

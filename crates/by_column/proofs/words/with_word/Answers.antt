@@ -1,6 +1,6 @@
 -- Both bytes are read, and the row's operation changes registers alone.
 -- Assumes nothing.
-use Rattle.std.proofs.Common.{refl, rules}
+use Rattle.std.proofs.Common.{refl}
 use Rattle.memory.proofs.Laws.{chain, ends, read_at_lem}
 use Rattle.memory.specs.Access.{then}
 use Rattle.modes.specs.Modes.{direct_word}

@@ -10,8 +10,7 @@ use borrow.Author.Tests.{eq-eqb, ne_eqb, not-true, not-false}
 use Rattle.waking.specs.States.{is_awake}
 use Rattle.processor.specs.declared.Processor.{Processor}
 use Rattle.spc_file.specs.Calls.{refusal_of, write_refusal}
-use Rattle.spc_file.proofs.write_refusal.Statement.{statement}
-use Rattle.spc_file.proofs.write_refusal.Tie as tie
+use Rattle.spc_file.proofs.write_refusal.Goals as goal
 
 module _ (cpu : Processor) (memory file : List ℕ) {refusal : ℕ} (is : refusal ≡ refusal_of file) where
   of-the-file : (refusal ≡ 0 → ⊥) → refusal ≡ write_refusal cpu memory file
@@ -31,23 +30,14 @@ module _ (cpu : Processor) (memory file : List ℕ) {refusal : ℕ} (is : refusa
     unfolding write_refusal
     none t = let up = sym tested ∙ not-false awake t in rw (← is, eq-eqb _ _ z, eq-eqb _ _ size, up)
 
-refusal-of-requires : tie.Need-refusal-of-requires
-refusal-of-requires c κs = search rules
+pub returns-then-refusal-ne0 : goal.returns-then-refusal-ne0
+returns-then-refusal-ne0 c = search (rules, of-the-file)
 
-returns : tie.Need-returns
-returns c = search (rules, of-the-file)
+pub returns-then-memory-ne65536 : goal.returns-then-memory-ne65536
+returns-then-memory-ne65536 c = search (rules, of-the-memory)
 
-returns-2 : tie.Need-returns-2
-returns-2 c = search (rules, of-the-memory)
+pub returns-then-not-is_awake : goal.returns-then-not-is_awake
+returns-then-not-is_awake c = search (rules, of-the-record)
 
-is-awake-requires : tie.Need-is-awake-requires
-is-awake-requires c κs = search rules
-
-returns-3 : tie.Need-returns-3
-returns-3 c = search (rules, of-the-record)
-
-returns-4 : tie.Need-returns-4
-returns-4 c = search (rules, none)
-
-pub write_refusal_spec : {M : Type 1} → statement M
-write_refusal_spec = tie.close (tie.spec refusal-of-requires returns returns-2 is-awake-requires returns-3 returns-4)
+pub returns : goal.returns
+returns c = search (rules, none)

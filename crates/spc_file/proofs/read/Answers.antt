@@ -12,8 +12,7 @@ use Rattle.processor.specs.declared.Processor.{Processor}
 use Rattle.spc_file.specs.Layout.{record_in}
 use Rattle.spc_file.specs.Calls.{refusal_of, file_read, read_of}
 use Rattle.spc_file.proofs.Laws.{sized}
-use Rattle.spc_file.proofs.read.Statement.{statement}
-use Rattle.spc_file.proofs.read.Tie as tie
+use Rattle.spc_file.proofs.read.Goals as goal
 
 module _ (file : List ℕ) {refusal : ℕ} (is : refusal ≡ refusal_of file) where
   refused : {psw : ProgramStatusWord} → (refusal ≡ 0 → ⊥) → psw ≡ cleared
@@ -23,21 +22,11 @@ module _ (file : List ℕ) {refusal : ℕ} (is : refusal ≡ refusal_of file) wh
   accepted : {cpu : Processor} → refusal ≡ 0 → cpu ≡ record_in file → file_read 0 cpu ≡ read_of file
   accepted z e = rw (e, ← is, eq-eqb _ _ z)
 
-refusal-of-requires : tie.Need-refusal-of-requires
-refusal-of-requires c κs = search rules
+pub returns-then-refusal-ne0 : goal.returns-then-refusal-ne0
+returns-then-refusal-ne0 c = search (rules, refused)
 
-default-requires : tie.Need-default-requires
-default-requires c κs = search rules
+pub record_in-requires : goal.record_in-requires
+record_in-requires c = search (rules, sized)
 
-returns : tie.Need-returns
-returns c = search (rules, refused)
-
-record-in-requires : tie.Need-record-in-requires
-record-in-requires c κs = search (rules, sized)
-
-returns-2 : tie.Need-returns-2
-returns-2 c = search (rules, accepted)
-
-pub read_spec : {M : Type 1} → statement M
-read_spec =
-    tie.close (tie.spec refusal-of-requires default-requires returns record-in-requires returns-2)
+pub returns : goal.returns
+returns c = search (rules, accepted)

@@ -11,8 +11,7 @@ use Rattle.state.specs.Registers.{is_whole, whole_of}
 use Rattle.spc_file.specs.Calls.{write_of}
 use Rattle.exports.specs.Calls.{packed, file_write_call}
 use Rattle.exports.proofs.Laws.{is_whole_lem, is_not, eight}
-use Rattle.exports.proofs.spc700_file_write.Statement.{statement}
-use Rattle.exports.proofs.spc700_file_write.Tie as tie
+use Rattle.exports.proofs.spc700_file_write.Goals as goal
 
 module _ (registers memory file : List ℕ) {whole : Bool} (tested : whole ≡ is_whole registers) where
   not_whole : {r : ℕ} → not whole ≡ true → r ≡ packed 6 0 0 → filled r file ≡ file_write_call registers memory file
@@ -22,39 +21,11 @@ module _ (registers memory file : List ℕ) {whole : Bool} (tested : whole ≡ i
       → filled refusal after ≡ write_of cpu memory file → r ≡ packed refusal 0 0 → filled r after ≡ file_write_call registers memory file
   write-answers t c w p = rw (p, is_whole_lem registers tested t, ← c, ← w)
 
-is-whole-requires : tie.Need-is-whole-requires
-is-whole-requires c κs = search rules
+pub returns-then-not-is_whole : goal.returns-then-not-is_whole
+returns-then-not-is_whole c = search (rules, not_whole)
 
-packed-requires : tie.Need-packed-requires
-packed-requires c κs = search rules
+pub whole-cpu-requires : goal.whole-cpu-requires
+whole-cpu-requires c = search (rules, eight)
 
-returns : tie.Need-returns
-returns c = search (rules, not_whole)
-
-whole-requires : tie.Need-whole-requires
-whole-requires c κs = search (rules, eight)
-
-write-requires : tie.Need-write-requires
-write-requires c κs = search rules
-
-packed-requires-2 : tie.Need-packed-requires-2
-packed-requires-2 c κs = search rules
-
-same_length : tie.Need-same-length
-same_length c = search rules
-
-returns-2 : tie.Need-returns-2
-returns-2 c = search (rules, write-answers)
-
-pub spc700_file_write_spec : {M : Type 1} → statement M
-spc700_file_write_spec =
-    tie.close
-    (tie.spec
-    is-whole-requires
-    packed-requires
-    returns
-    whole-requires
-    write-requires
-    packed-requires-2
-    same_length
-    returns-2)
+pub returns : goal.returns
+returns c = search (rules, write-answers)

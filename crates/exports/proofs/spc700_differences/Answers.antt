@@ -11,8 +11,7 @@ use Rattle.laws.specs.Filled.{filled}
 use Rattle.differences.specs.Calls.{differences_of}
 use Rattle.differences.specs.declared.Differences.{Differences}
 use Rattle.exports.specs.Calls.{packed, differences_call}
-use Rattle.exports.proofs.spc700_differences.Statement.{statement}
-use Rattle.exports.proofs.spc700_differences.Tie as tie
+use Rattle.exports.proofs.spc700_differences.Goals as goal
 
 one_or_zero : (b : Bool) → bool_byte b ≡ cond b 1 0
 one_or_zero true = refl
@@ -24,20 +23,5 @@ told : (first second : List ℕ) (has-map : ℕ) (map row : List ℕ) {found : D
     → filled r left ≡ differences_call first second has-map map row
 told first second has-map map row {found} e p = rw (p, one_or_zero found.touched, ← e)
 
-between-requires : tie.Need-between-requires
-between-requires c κs = search rules
-
-cast-packed : tie.Need-overflow-cast-packed
-cast-packed c = search rules
-
-packed-requires : tie.Need-packed-requires
-packed-requires c κs = search rules
-
-same_length : tie.Need-same-length
-same_length c = search rules
-
-returns : tie.Need-returns
+pub returns : goal.returns
 returns c = search (rules, told)
-
-pub spc700_differences_spec : {M : Type 1} → statement M
-spc700_differences_spec = tie.close (tie.spec between-requires cast-packed packed-requires same_length returns)

@@ -1,4 +1,4 @@
--- The kit's comparison tells whether the first 33 bytes are the signature.
+-- The comparison of two slices tells whether the first 33 bytes are the signature.
 -- Assumes nothing.
 use Prim.Native.Nat.{ℕ}
 use mathlib.Core.Path.{◌≡◌, sym, ◌∙◌}
@@ -13,8 +13,7 @@ use borrow.Author.Tests.{eq-eqb, ne_eqb}
 use Rattle.spc_file.specs.Layout.{signature}
 use Rattle.spc_file.specs.Calls.{refusal_of}
 use Rattle.spc_file.specs.Theorems.{accepts}
-use Rattle.spc_file.proofs.refusal_of.Statement.{statement}
-use Rattle.spc_file.proofs.refusal_of.Tie as tie
+use Rattle.spc_file.proofs.refusal_of.Goals as goal
 
 module _ (file : List ℕ) where
   another-length : (length file ≡ 66048 → ⊥) → 7 ≡ refusal_of file
@@ -35,33 +34,16 @@ module _ (file : List ℕ) where
           let other : take 33 file ≡ signature → ⊥ = λ e. true≢false (sym (tells.1 e) ∙ f) in
           rw (eq-eqb _ _ size) (sym (if_neg {C = ℕ} (List-discrete ℕ_discrete (take 33 file) signature) other 0 8))
 
-returns : tie.Need-returns
-returns c = search (rules, another-length)
+pub returns-then-file-ne66048 : goal.returns-then-file-ne66048
+returns-then-file-ne66048 c = search (rules, another-length)
 
-slice-aggregate-same : tie.Need-slice-aggregate-same
-slice-aggregate-same c = simp length-take (omega arith)
+pub slice_bounds-eq-end : goal.slice_bounds-eq-end
+slice_bounds-eq-end c = simp length-take (omega arith)
 
-slice-aggregate-same-2 : tie.Need-slice-aggregate-same-2
-slice-aggregate-same-2 c = search rules
-
-same-requires : tie.Need-same-requires
-same-requires c κs = search rules
-
-returns-2 : tie.Need-returns-2
+pub returns-then-eq : goal.returns-then-eq
 unfolding signature
-returns-2 c = search (rules, signed)
+returns-then-eq c = search (rules, signed)
 
-returns-3 : tie.Need-returns-3
+pub returns : goal.returns
 unfolding signature
-returns-3 c = search (rules, unsigned)
-
-pub refusal_of_spec : {M : Type 1} → statement M
-refusal_of_spec =
-    tie.close
-    (tie.spec
-    returns
-    slice-aggregate-same
-    slice-aggregate-same-2
-    same-requires
-    returns-2
-    returns-3)
+returns c = search (rules, unsigned)

@@ -11,8 +11,7 @@ use Rattle.state.specs.Registers.{whole_bytes_of}
 use Rattle.spc_file.specs.Calls.{read_of}
 use Rattle.spc_file.specs.declared.FileRead.{FileRead}
 use Rattle.exports.specs.Calls.{packed, file_read_call}
-use Rattle.exports.proofs.spc700_file_read.Statement.{statement}
-use Rattle.exports.proofs.spc700_file_read.Tie as tie
+use Rattle.exports.proofs.spc700_file_read.Goals as goal
 
 module _ (file registers : List ℕ) where
   not_eight : {r : ℕ} → (length registers ≡ 8 → ⊥) → r ≡ packed 6 0 0 → filled r registers ≡ file_read_call file registers
@@ -26,43 +25,11 @@ module _ (file registers : List ℕ) where
       → after ≡ whole_bytes_of read.cpu → r ≡ packed 0 0 0 → filled r after ≡ file_read_call file registers
   accepted s e z a p = rw (p, a, eq-eqb _ _ s, ← e, eq-eqb _ _ z)
 
-packed-requires : tie.Need-packed-requires
-packed-requires c κs = search rules
+pub returns-then-registers-ne8 : goal.returns-then-registers-ne8
+returns-then-registers-ne8 c = search (rules, not_eight)
 
-returns : tie.Need-returns
-returns c = search (rules, not_eight)
+pub returns-then-read-ne0 : goal.returns-then-read-ne0
+returns-then-read-ne0 c = search (rules, refused)
 
-read-requires : tie.Need-read-requires
-read-requires c κs = search rules
-
-packed-requires-2 : tie.Need-packed-requires-2
-packed-requires-2 c κs = search rules
-
-returns-2 : tie.Need-returns-2
-returns-2 c = search (rules, refused)
-
-set-whole-requires : tie.Need-set-whole-requires
-set-whole-requires c κs = search rules
-
-packed-requires-3 : tie.Need-packed-requires-3
-packed-requires-3 c κs = search rules
-
-same_length : tie.Need-same-length
-same_length c = search rules
-
-returns-3 : tie.Need-returns-3
-returns-3 c = search (rules, accepted)
-
-pub spc700_file_read_spec : {M : Type 1} → statement M
-spc700_file_read_spec =
-    tie.close
-    (tie.spec
-    packed-requires
-    returns
-    read-requires
-    packed-requires-2
-    returns-2
-    set-whole-requires
-    packed-requires-3
-    same_length
-    returns-3)
+pub returns : goal.returns
+returns c = search (rules, accepted)

@@ -12,8 +12,7 @@ use Rattle.laws.specs.Stored.{all_stored}
 use Rattle.marks.specs.Counts.{counts_of}
 use Rattle.marks.specs.declared.Counted.{Counted}
 use Rattle.exports.specs.Calls.{packed, counts_call}
-use Rattle.exports.proofs.spc700_counts.Statement.{statement}
-use Rattle.exports.proofs.spc700_counts.Tie as tie
+use Rattle.exports.proofs.spc700_counts.Goals as goal
 
 module _ (reads writes row : List ℕ) where
   not_three : {r : ℕ} → (length row ≡ 3 → ⊥) → r ≡ packed 6 0 0 → filled r row ≡ counts_call reads writes row
@@ -29,51 +28,11 @@ module _ (reads writes row : List ℕ) where
       let three = all_stored (counted.read_only ∷ counted.stored_only ∷ counted.both ∷ []) row s in
       rw (p, three, eq-eqb _ _ s, ← e, eq-eqb _ _ z)
 
-packed-requires : tie.Need-packed-requires
-packed-requires c κs = search rules
+pub returns-then-counts-ne3 : goal.returns-then-counts-ne3
+returns-then-counts-ne3 c = search (rules, not_three)
 
-returns : tie.Need-returns
-returns c = search (rules, not_three)
+pub returns-then-counted-ne0 : goal.returns-then-counted-ne0
+returns-then-counted-ne0 c = search (rules, refused)
 
-counts-requires : tie.Need-counts-requires
-counts-requires c κs = search rules
-
-packed-requires-2 : tie.Need-packed-requires-2
-packed-requires-2 c κs = search rules
-
-returns-2 : tie.Need-returns-2
-returns-2 c = search (rules, refused)
-
-slice-write-counts : tie.Need-slice-write-counts
-slice-write-counts c = search rules
-
-slice-write-counts-2 : tie.Need-slice-write-counts-2
-slice-write-counts-2 c = search rules
-
-slice-write-counts-3 : tie.Need-slice-write-counts-3
-slice-write-counts-3 c = search rules
-
-packed-requires-3 : tie.Need-packed-requires-3
-packed-requires-3 c κs = search rules
-
-same_length : tie.Need-same-length
-same_length c = search rules
-
-returns-3 : tie.Need-returns-3
-returns-3 c = search (rules, accepted)
-
-pub spc700_counts_spec : {M : Type 1} → statement M
-spc700_counts_spec =
-    tie.close
-    (tie.spec
-    packed-requires
-    returns
-    counts-requires
-    packed-requires-2
-    returns-2
-    slice-write-counts
-    slice-write-counts-2
-    slice-write-counts-3
-    packed-requires-3
-    same_length
-    returns-3)
+pub returns : goal.returns
+returns c = search (rules, accepted)

@@ -14,8 +14,7 @@ use Rattle.text.specs.Given.{says, refuses, accepted, refused, answer_to}
 use Rattle.listing.specs.Instruction.{instruction_text, is_cut, listed_of}
 use Rattle.listing.specs.Lengths.{instruction_fits}
 use Rattle.exports.specs.Calls.{text_number}
-use Rattle.exports.proofs.spc700_text.Statement.{statement}
-use Rattle.exports.proofs.spc700_text.Tie as tie
+use Rattle.exports.proofs.spc700_text.Goals as goal
 
 -- no answer has a length above 80
 short : (code buffer : List ℕ) → Bytes code → (answer_to (listed_of code) buffer).length ≤ 80
@@ -33,27 +32,11 @@ short (opcode ∷ operands) buffer bytes = go (is_cut (opcode ∷ operands))
     go true = omega arith
     go false = given (leb (length said) (length buffer))
 
-instruction-requires : tie.Need-instruction-requires
-instruction-requires c κs = search rules
+pub overflow_cast-written : goal.overflow_cast-written
+overflow_cast-written c = let bytes : Bytes c.args.code.now = λ at. omega (arith, c.type_inv.code at) in
+    let said = c.instruction-written.ensures in
+    omega (arith, ap (λ (r : Written). r.length) said.answer, short c.args.code.now c.args.text.now bytes)
 
-cast-packed : tie.Need-overflow-cast-packed
-cast-packed c =
-    let start = c.before.before.before.before.before.before.before in
-    let bytes : Bytes start.args.code.now = λ at. omega (arith, c.before.before.before.before.before.before.shared-slice-known.given at) in
-    let said = c.before.before.before.instruction.ensures in
-    omega (arith, ap (λ (r : Written). r.length) said.answer, short start.args.code.now start.args.text.now bytes)
-
-packed-requires : tie.Need-packed-requires
-packed-requires c κs = search rules
-
-same_length : tie.Need-same-length
-same_length c = search rules
-
-returns : tie.Need-returns
-returns c =
-    let said = c.before.before.before.before.instruction.ensures in
+pub returns : goal.returns
+returns c = let said = c.instruction-written.ensures in
     (c.packed.ensures ∙ ap text_number said.answer, said.buffer)
-
-pub spc700_text_spec : {M : Type 1} → statement M
-spc700_text_spec =
-    tie.close (tie.spec instruction-requires cast-packed packed-requires same_length returns)
