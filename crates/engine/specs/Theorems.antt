@@ -34,11 +34,11 @@ module _ (edition : Edition) where
 
   -- A run takes no more steps than its budget, and all of it where it leaves the record awake.
   pub within_budget : (budget : ℕ) (cpu : Processor) (w : World) → (run_of edition budget cpu w).result.steps ≤ budget
-  within_budget = runs.within-budget (taken (counted_step edition)) awake one_step no_step
+  within_budget = runs.within_budget (taken (counted_step edition)) awake one_step no_step
 
   pub budget_spent : (budget : ℕ) (cpu : Processor) (w : World) → is_awake (run_of edition budget cpu w).result.regs.state ≡ true
       → (run_of edition budget cpu w).result.steps ≡ budget
-  budget_spent = runs.budget-spent (taken (counted_step edition)) awake one_step no_step
+  budget_spent = runs.budget_spent (taken (counted_step edition)) awake one_step no_step
 
   -- A run of m, and then one of n from what it left, is a run of m + n: the same record, memory and maps, and the steps of both.
   pub in_parts : (m n : ℕ) (cpu : Processor) (w : World)
@@ -51,7 +51,7 @@ module _ (edition : Edition) where
 
   pub run_keeps : (budget : ℕ) (cpu : Processor) (w : World) → Sized w → Kept w (run_of edition budget cpu w).left
   run_keeps =
-      runs.run-keeps (taken (counted_step edition)) (λ v w. Sized v → Kept v w) kept_itself (λ u v w f g s. kept_trans (f s) (g (f s).sized)) step_keeps
+      runs.run_keeps (taken (counted_step edition)) (λ v w. Sized v → Kept v w) kept_itself (λ u v w f g s. kept_trans (f s) (g (f s).sized)) step_keeps
 
   -- Whatever the opcode, but for DBNZ d,rel, what follows its fetch reads all that it reads before it stores anything.
   pub reads_first : (cpu : Processor) (opcode : ℕ) → opcode < 256 → (opcode ≡ 0x6E → ⊥) → ReadsFirst (after_opcode edition cpu opcode)
@@ -59,4 +59,4 @@ module _ (edition : Edition) where
 
 -- A step answers what a run of budget 1 answers, refused or not, whatever number it is given for an edition, and leaves the same.
 pub step_is_run_of_one : (number : ℕ) (cpu : Processor) (w : World) → step_answer number cpu w ≡ run_answer number 1 cpu w
-step_is_run_of_one number cpu w = ap (answered number cpu w) (sym (runs.run-one (taken (counted_step (edition_of number))) cpu w))
+step_is_run_of_one number cpu w = ap (answered number cpu w) (sym (runs.run_one (taken (counted_step (edition_of number))) cpu w))

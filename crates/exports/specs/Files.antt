@@ -39,7 +39,7 @@ none_refused refusal e = omega arith
 written_again : (file : List ℕ) → Bytes file → refusal_of file ≡ 0
     → write_of (whole_of (whole_bytes_of (read_of file).cpu)) (memory_of file) file ≡ filled 0 file
 written_again file bytes z =
-    rw (record_to_whole_and_back (read_of file).cpu) (spc.read-then-write file bytes ∙ ap (λ (n : ℕ). filled n file) z)
+    rw (record_to_whole_and_back (read_of file).cpu) (spc.read_then_write file bytes ∙ ap (λ (n : ℕ). filled n file) z)
 
 -- a call that is refused, and leaves what it was lent as it was
 pub record Refused (o : Filled ℕ) (lent : List ℕ) : Type 0 where
@@ -72,7 +72,7 @@ module _ (file registers : List ℕ) where
       go (no n) d b w = rw (ne_eqb _ _ n, ne_eqb _ _ n) (record { refused = λ e. omega arith; stays = refl })
       go (yes s) (yes z) b w = absurd (refused (rw (eq-eqb _ _ s, eq-eqb _ _ z)))
       go (yes s) (no n) true w =
-          rw (read-refused file registers s n, wrote file registers w (memory_of file) (spc.refused-file (whole_of registers) (memory_of file) file n))
+          rw (read-refused file registers s n, wrote file registers w (memory_of file) (spc.refused_file (whole_of registers) (memory_of file) file n))
           (record { refused = λ e. n (none_refused (refusal_of file) e); stays = refl })
       go (yes s) (no n) false w = rw (read-refused file registers s n, w) (record { refused = λ e. omega arith; stays = refl })
 
@@ -89,7 +89,7 @@ write_then_read registers memory file bytes e = go (is_whole registers) refl
     go : (b : Bool) → is_whole registers ≡ b → GivesBack registers memory (file_write_call registers memory file).left
     go false w = absurd (omega (arith, rw w at e))
     go true w =
-        let back = spc.write-then-read (whole_of registers) memory file (none_refused _ (rw w at e)) in
+        let back = spc.write_then_read (whole_of registers) memory file (none_refused _ (rw w at e)) in
         rw w (record {
           read = λ into eight. rw (read-accepted _ into eight back.read, whole_to_record_and_back registers bytes w);
           part = back.part;
@@ -101,10 +101,10 @@ write_then_read registers memory file bytes e = go (is_whole registers) refl
 pub record_to_file_and_back : (state file into : List ℕ) → Bytes state → (file_from_record_call state file).answer ≡ 0 → length into ≡ 65543
     → record_from_file_call (file_from_record_call state file).left into ≡ filled 0 state
 record_to_file_and_back state file into bytes e size =
-    ap numbered (conversion.record-to-file-and-back state file into bytes (none_refused (file_from_record state file).answer e) size)
+    ap numbered (conversion.record_to_file_and_back state file into bytes (none_refused (file_from_record state file).answer e) size)
 
 -- and a file that went into a record comes back, into whatever file is lent.
 pub file_to_record_and_back : (file state into : List ℕ) → Bytes file → (record_from_file_call file state).answer ≡ 0 → length into ≡ 66048
     → file_from_record_call (record_from_file_call file state).left into ≡ filled 0 file
 file_to_record_and_back file state into bytes e size =
-    ap numbered (conversion.file-to-record-and-back file state into bytes (none_refused (record_from_file file state).answer e) size)
+    ap numbered (conversion.file_to_record_and_back file state into bytes (none_refused (record_from_file file state).answer e) size)

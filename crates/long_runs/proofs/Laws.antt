@@ -1,13 +1,7 @@
 -- A step by the row of its column, and the loop's test.
 -- Assumes nothing.
-use Prim.Native.Nat.{ℕ, zero, suc, ◌/◌, ◌%◌, ◌<◌}
-use mathlib.Core.Path.{◌≡◌, refl, ap, sym, ◌∙◌}
-use mathlib.Core.Bool.{true, false}
-use mathlib.Core.List.{List, [], ◌∷◌}
-use native.Mathlib.Omega.{arith}
-use lib.Dec.{eqb, eqb→eq}
+use Rattle.std.proofs.Common.{ℕ, zero, suc, ◌/◌, ◌%◌, ◌≡◌, refl, ap, sym, ◌∙◌, true, false, arith, eqb}
 use borrow.Author.Tests.{ne_eqb}
-use Rattle.laws.specs.Dispatch.{NoneIn, none_then}
 use Rattle.waking.specs.States.{state_of, is_awake}
 use Rattle.memory.specs.World.{World}
 use Rattle.memory.specs.Access.Access.{done}
@@ -52,28 +46,17 @@ module _ (edition : Edition) (cpu : Processor) {w left : World} {opcode : ℕ} {
   step_by column behind e at does =
       let whole : opcode_at column (opcode / 32) ≡ opcode = omega (arith, at) in row-then (rw (whole, e) at does)
 
--- The last column: the low five bits are none of the others.
-abbrev pub others : List (List ℕ)
-others =
-    (30 ∷ []) ∷ (29 ∷ []) ∷ (28 ∷ []) ∷ (27 ∷ []) ∷ (26 ∷ []) ∷ (25 ∷ []) ∷ (24 ∷ []) ∷ (23 ∷ []) ∷ (22 ∷ []) ∷ (21 ∷ []) ∷ (20 ∷ []) ∷ (19 ∷ []) ∷ (18 ∷ []) ∷ (17 ∷ []) ∷ (16 ∷ []) ∷ (15 ∷ []) ∷
-    (14 ∷ []) ∷ (13 ∷ []) ∷ (12 ∷ []) ∷ (11 ∷ []) ∷ (10 ∷ []) ∷ (9 ∷ []) ∷ (8 ∷ []) ∷ (7 ∷ []) ∷ (6 ∷ []) ∷ (5 ∷ []) ∷ (4 ∷ []) ∷ (3 ∷ []) ∷ (2 ∷ []) ∷ (1 ∷ []) ∷ (0 ∷ []) ∷ []
-
-pub last_column : (opcode : ℕ) → NoneIn others (opcode % 32) → opcode % 32 ≡ 31
-last_column opcode none =
-    let small : opcode % 32 < 32 = omega arith in
-    eqb→eq (opcode % 32) 31 (none_then 32 (λ k. eqb k 31) (λ k. k) others (opcode % 32) small none tt)
-
 -- A record is awake where its state's number is 0.
 awake_at : (stop : ℕ) → is_awake (state_of stop) ≡ eqb stop 0
 awake_at zero = refl
 awake_at (suc zero) = refl
 awake_at (suc (suc stop)) = sym (ne_eqb (suc (suc stop)) 0 (λ e. omega (arith, e)))
 
-pub is_awake_lem : (stop : ℕ) → eqb stop 0 ≡ true → true ≡ is_awake (state_of stop)
-is_awake_lem stop e = sym (awake_at stop ∙ e)
+pub is_awake_lem : (stop : ℕ) → stop ≡ 0 → true ≡ is_awake (state_of stop)
+is_awake_lem stop e = rw e
 
-pub is_resting : (stop : ℕ) → eqb stop 0 ≡ false → false ≡ is_awake (state_of stop)
-is_resting stop e = sym (awake_at stop ∙ e)
+pub is_resting : (stop : ℕ) → (stop ≡ 0 → ⊥) → false ≡ is_awake (state_of stop)
+is_resting stop n = sym (awake_at stop ∙ ne_eqb stop 0 n)
 
 -- The way in, the steps and the way out.
 pub there_and_back : (edition : Edition) (budget : ℕ) {cpu start last r : Processor} {steps : ℕ} {w laid ended left : World}

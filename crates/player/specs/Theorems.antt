@@ -123,13 +123,13 @@ module _ (p : Packet) (a : Accepted p) where
     unfolding played_of finished
     read_map_exact =
         rw (eq-eqb _ _ (accepts p a), unmarked_same other (played_to p).playing.world.reads)
-        (exact.read-map-exact _ _ k h other _ (begun_of p) begun-whole clear)
+        (exact.read_map_exact _ _ k h other _ (begun_of p) begun-whole clear)
 
     pub written_map_exact : (is_marked (played_of p).left.world.writes k ≡ true) ↔ StoredAt k accesses_of
     unfolding played_of finished
     written_map_exact =
         rw (eq-eqb _ _ (accepts p a), unmarked_same other (played_to p).playing.world.writes)
-        (exact.written-map-exact _ _ k h other _ (begun_of p) begun-whole clear)
+        (exact.written_map_exact _ _ k h other _ (begun_of p) begun-whole clear)
 
 -- ---- a playing in parts
 

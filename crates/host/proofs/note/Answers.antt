@@ -4,10 +4,8 @@ use Prim.Native.Nat.{ℕ}
 use mathlib.Core.Path.{◌≡◌, refl, ap, ◌∙◌}
 use mathlib.Core.Bool.{Bool, true, false, cond, ◌||◌}
 use mathlib.Core.List.{List}
-use mathlib.Core.Logic.{⊎_elim}
 use native.Mathlib.Omega.{arith}
 use lib.ListN.{get_or}
-use borrow.Author.Rules.{rules}
 use Rattle.devices.specs.Devices.{bit, with_notes, after_reads, controlled, aimed_all, after_stores, passed}
 use Rattle.devices.specs.declared.Devices.{Devices}
 use Rattle.host.specs.Turn.{noted}
@@ -45,4 +43,8 @@ pass-requires c = omega (arith, still _ _ _ _ c.take_reads.ensures c.take_stores
 
 pub returns : goal.returns
 returns c = all_noted _ _ _ _ c.take_reads.ensures c.take_stores-next.ensures _ _
-    (elim c.if-next.branch [ then-next w ↦ was _ w.0.taken w.1 | else-next w ↦ was_not w.0.left w.1 ]) c.pass.ensures
+    (elim c.if-next.branch [
+      | then-next w ↦ was _ w.if-next.true w.next-is
+      | else-next w ↦ was_not w.if-next.false w.next-is
+    ])
+    c.pass.ensures

@@ -1,10 +1,7 @@
 -- The loop does what is left to do, and ends where the budget is spent, or where there is no step to take.
 -- Assumes nothing.
-use mathlib.Core.Path.{sym, ◌∙◌}
-use mathlib.Core.Logic.{⊎_elim}
-use borrow.Author.Count.{falls_down}
 use Rattle.editions.specs.Editions.{edition_of}
-use Rattle.host.proofs.SoFar.{SoFar, on, whole, unspent, begun, next, spent, resting}
+use Rattle.host.proofs.SoFar.{SoFar, on}
 use Rattle.host.proofs.play.Given as goal
 
 abbrev pub invariant-loop-left : goal.invariant-loop-left

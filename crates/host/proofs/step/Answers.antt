@@ -40,35 +40,33 @@ module _ (number : ℕ) (cpu : Processor) (w : World) where
       rw (low _ h)
       (ap (λ (o : Outcome World Ran). stepped o.result.cpu o.left) (rw (eq-eqb _ _ (accepts number w named size)) at e))
 
--- what the function is given
-abbrev given : tie.Start → World
-given start = world start.args.memory.now start.args.reads.now start.args.writes.now
-
 pub step-requires : goal.step-requires
 step-requires c = c.requires
 
 pub shape_of-memory-then-memory-ge128 : goal.shape_of-memory-then-memory-ge128
-shape_of-memory-then-memory-ge128 c = c.step.auto.1.1.0
+shape_of-memory-then-memory-ge128 c = c.step.auto.memory
 
 pub shape_of-reads-then-memory-ge128 : goal.shape_of-reads-then-memory-ge128
-shape_of-reads-then-memory-ge128 c = c.step.auto.1.1.1.0
+shape_of-reads-then-memory-ge128 c = c.step.auto.reads
 
 pub shape_of-writes-then-memory-ge128 : goal.shape_of-writes-then-memory-ge128
-shape_of-writes-then-memory-ge128 c = c.step.auto.1.1.1.1.0
+shape_of-writes-then-memory-ge128 c = c.step.auto.writes
 
 pub returns-then-memory-ge128 : goal.returns-then-memory-ge128
-returns-then-memory-ge128 c = let on = c.if-memory-ge128.true in
-    rom-on c.args.edition c.args.cpu (given c) on (c.type_inv.memory 0xF1).fits c.step.ensures
+returns-then-memory-ge128 c =
+    let given = world c.args.memory.now c.args.reads.now c.args.writes.now in
+    rom-on c.args.edition c.args.cpu given c.if-memory-ge128.true (search rules) c.step.ensures
 
 pub shape_of-memory : goal.shape_of-memory
-shape_of-memory c = c.step-ran.auto.1.1.0
+shape_of-memory c = c.step-ran.auto.memory
 
 pub shape_of-reads : goal.shape_of-reads
-shape_of-reads c = c.step-ran.auto.1.1.1.0
+shape_of-reads c = c.step-ran.auto.reads
 
 pub shape_of-writes : goal.shape_of-writes
-shape_of-writes c = c.step-ran.auto.1.1.1.1.0
+shape_of-writes c = c.step-ran.auto.writes
 
 pub returns : goal.returns
-returns c = let off = c.if-memory-ge128.false in
-    rom_off c.args.edition c.args.cpu (given c) off c.requires.1 c.requires.0 c.step-ran.ensures
+returns c =
+    let given = world c.args.memory.now c.args.reads.now c.args.writes.now in
+    rom_off c.args.edition c.args.cpu given c.if-memory-ge128.false c.requires.1 c.requires.0 c.step-ran.ensures

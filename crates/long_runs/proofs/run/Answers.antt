@@ -1,6 +1,5 @@
 -- The cells stand for memory and maps before the steps, and memory and maps for the cells behind them.
 -- Assumes nothing.
-use borrow.Author.Rules.{rules}
 use Rattle.long_runs.proofs.Laws.{there_and_back}
 use Rattle.long_runs.proofs.run.Goals as goal
 

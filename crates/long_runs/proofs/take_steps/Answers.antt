@@ -1,16 +1,15 @@
 -- What the loop has done so far, on what registers and cells stand for, is the run of as many steps.
 -- Assumes nothing.
-use mathlib.Core.Path.{◌≡◌, refl}
-use mathlib.Core.Logic.{⊎_elim}
-use native.Mathlib.Omega.{arith}
-use lib.ListN.{length}
-use borrow.Author.Rules.{rules}
-use Rattle.instructions.proofs.SoFar.{SoFar, begun, one_more, resting, spent}
-use Rattle.registers.specs.Flat.{record_of}
-use Rattle.cells.specs.Cells.{world_of}
+use Rattle.std.proofs.Common.{◌≡◌, ℕ, zero, suc, ◌<◌, ◌≤◌, refl, arith, rules}
+use Rattle.instructions.proofs.SoFar.{begun, one_more, resting, spent}
 use Rattle.cells.proofs.Laws.{sized}
 use Rattle.long_runs.proofs.Laws.{is_awake_lem, is_resting}
 use Rattle.long_runs.proofs.take_steps.Goals as goal
+
+-- Where steps are over while budget is left, the record is not awake; else the budget is spent.
+over_by : {P : Type 0} (left stop : ℕ) → (0 < left → stop ≡ 0 → ⊥) → ((stop ≡ 0 → ⊥) → P) → (left ≤ 0 → P) → P
+over_by zero stop over f g = g (omega arith)
+over_by (suc k) stop over f g = f (over (omega arith))
 
 pub loop-left-init : goal.loop-left-init
 loop-left-init c = (begun (sized _), c.requires)
@@ -26,17 +25,17 @@ loop-left-smaller c = omega (arith, c.loop-left-test.true)
 
 pub loop-left-preserved : goal.loop-left-preserved
 loop-left-preserved c = let before = c.loop-left in (
-      one_more before.invariant.0 c.loop-left-test.true (is_awake_lem before.next.stop c.if-next-eq0.true) refl
-          c.instruction-next.ensures,
-      search (rules, before.invariant.1),
-    )
+  one_more before.invariant.0 c.loop-left-test.true (is_awake_lem before.next.stop (omega arith)) refl
+      c.instruction-next.ensures,
+  search (rules, before.invariant.1),
+)
 
 pub overflow_sub-result : goal.overflow_sub-result
 overflow_sub-result c = omega (arith, c.loop-left.invariant.0.within)
 
 pub returns : goal.returns
 returns c = let before = c.loop-left in
-    ⊎_elim
-    (λ t. resting before.invariant.0 (is_resting before.next.stop t.2.left) refl)
-    (λ t. spent before.invariant.0 (search rules))
-    c.loop-left-test.branch
+    let over : 0 < before.left → before.next.stop ≡ 0 → ⊥ = λ h e. grind arith in
+    over_by before.left before.next.stop over
+    (λ n. resting before.invariant.0 (is_resting before.next.stop n) refl)
+    (λ none. spent before.invariant.0 none)

@@ -1,15 +1,9 @@
 -- What the loop has done so far, on what registers and cells stand for, is the run of as many steps.
 -- Assumes nothing.
-use mathlib.Core.Path.{◌≡◌, refl}
-use mathlib.Core.Logic.{⊎_elim}
-use native.Mathlib.Omega.{arith}
-use lib.ListN.{length}
-use borrow.Author.Rules.{rules}
-use Rattle.instructions.proofs.SoFar.{SoFar, begun, one_more, resting, spent}
+use Rattle.std.proofs.Common.{◌≡◌, length}
+use Rattle.instructions.proofs.SoFar.{SoFar}
 use Rattle.registers.specs.Flat.{record_of}
 use Rattle.cells.specs.Cells.{world_of}
-use Rattle.cells.proofs.Laws.{sized}
-use Rattle.long_runs.proofs.Laws.{is_awake_lem, is_resting}
 use Rattle.long_runs.proofs.take_steps.Given as goal
 
 abbrev pub invariant-loop-left : goal.invariant-loop-left

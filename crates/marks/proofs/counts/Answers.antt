@@ -1,7 +1,7 @@
 -- The loop's invariant: after i bytes of each map the three sums are how many of their addresses are marked in each way. A refused map is
 -- the definition's, whichever of the two it is.
 -- Assumes nothing.
-use Prim.Native.Nat.{ℕ, ◌-◌, ◌*◌, ◌≤◌}
+use Prim.Native.Nat.{ℕ, ◌*◌, ◌≤◌}
 use mathlib.Core.Path.{◌≡◌}
 use mathlib.Core.List.{List}
 use native.Mathlib.Omega.{arith}

@@ -1,6 +1,5 @@
 -- `&` with the address's one bit leaves that bit alone, and so gives 0 just where the address is not marked.
 -- Assumes nothing.
-use borrow.Author.Rules.{rules}
 use Rattle.marks.proofs.Laws.{is_marked_is}
 use Rattle.marks.proofs.is_marked.Goals as goal
 

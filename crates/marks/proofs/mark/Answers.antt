@@ -1,6 +1,5 @@
 -- The code stores what the definition stores: the byte with the bit that `bit_of` gives.
 -- Assumes nothing.
-use borrow.Author.Rules.{rules}
 use Rattle.marks.proofs.mark.Goals as goal
 
 pub returns : goal.returns

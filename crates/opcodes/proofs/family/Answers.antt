@@ -1,6 +1,5 @@
 -- As for `single`: the same five patterns in the same order, and 0 past the end.
 -- Assumes nothing.
-use borrow.Author.Rules.{rules}
 use mathlib.Core.Path.{refl}
 use lib.ListN.{get_or-eq_default}
 use Rattle.opcodes.specs.Opcodes.{families, patterns_of}

@@ -1,6 +1,5 @@
 -- The code's array and the definition's list are the same numbers in the same order; past the end both give 0.
 -- Assumes nothing.
-use borrow.Author.Rules.{rules}
 use mathlib.Core.Path.{refl}
 use lib.ListN.{get_or-eq_default}
 use Rattle.opcodes.specs.Opcodes.{constants, opcodes_of}

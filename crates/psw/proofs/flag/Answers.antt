@@ -1,6 +1,5 @@
 -- Four bytes, pushed one after the other, are the definition's four.
 -- Assumes nothing.
-use borrow.Author.Rules.{rules}
 use Rattle.text.specs.Line.{adds}
 use Rattle.psw.proofs.flag.Goals as goal
 

@@ -2,11 +2,10 @@
 -- Assumes nothing.
 use mathlib.Core.Path.{◌≡◌}
 use lib.ListN.{length}
-use borrow.Author.Rules.{rules}
 use Rattle.replay.proofs.main.Given as goal
 
 abbrev pub invariant-loop-left : goal.invariant-loop-left
-invariant-loop-left l = length l.initial.case ≡ 16
+invariant-loop-left l = length l.case ≡ 16
 
 abbrev pub decreases-loop-left : goal.decreases-loop-left
-decreases-loop-left l = l.initial.left
+decreases-loop-left l = l.left

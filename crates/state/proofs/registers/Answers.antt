@@ -1,7 +1,6 @@
 -- Each register is its byte; PC and the status word are what the calls give.
 -- Assumes nothing.
 use Rattle.state.specs.Registers.{registers_of}
-use borrow.Author.Rules.{rules}
 use Rattle.state.proofs.registers.Goals as goal
 
 pub returns : goal.returns

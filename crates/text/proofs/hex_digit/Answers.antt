@@ -1,6 +1,5 @@
 -- The code's test is the definition's own.
 -- Assumes nothing.
-use borrow.Author.Rules.{rules}
 use borrow.Author.Tests.{lt-ltb, le-ltb}
 use Rattle.text.proofs.hex_digit.Goals as goal
 

@@ -1,7 +1,6 @@
 -- The registers decide, if they differ, and else the stores.
 -- Assumes nothing.
 use mathlib.Core.Path.{refl}
-use borrow.Author.Rules.{rules}
 use Rattle.host.proofs.And.{held, failed}
 use Rattle.host.proofs.beside.are_alike.Goals as goal
 

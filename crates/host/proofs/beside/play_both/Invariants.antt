@@ -1,11 +1,8 @@
 -- The loop does what is left to do, and ends where the budget is spent, where the two are not alike, or where one has no step to take.
 -- Assumes nothing.
-use mathlib.Core.Path.{sym, ◌∙◌}
-use mathlib.Core.Logic.{⊎_elim}
-use borrow.Author.Count.{falls_down}
 use Rattle.editions.specs.Editions.{edition_of}
-use Rattle.host.proofs.SoFar.{on, whole}
-use Rattle.host.proofs.BothSoFar.{BothSoFar, begun, next, spent, unlike, first_rests, second_rests}
+use Rattle.host.proofs.SoFar.{on}
+use Rattle.host.proofs.BothSoFar.{BothSoFar}
 use Rattle.host.proofs.beside.play_both.Given as goal
 
 abbrev pub invariant-loop-left : goal.invariant-loop-left

@@ -12,30 +12,26 @@ use borrow.Author.Rules.{rules}
 use borrow.Author.Tests.{eq-eqb, ne_eqb}
 use Rattle.devices.specs.declared.Devices.{Devices}
 use Rattle.host.specs.Beside.{same_bytes, same_stores}
+use Rattle.host.proofs.beside.same_stores.Invariants.{SoFar}
 use Rattle.host.proofs.beside.same_stores.Goals as goal
 
 module _ (memory other : List ℕ) where
-  -- so far all bytes are the same
-  pub record SoFar (at : ℕ) : Type 0 where
-    pub within : at ≤ 256
-    pub is : same_bytes 16 0xF0 memory other ≡ same_bytes (256 - at) at memory other
-
-  begun : SoFar 0xF0
+  begun : SoFar memory other 0xF0
   begun = record { within = omega arith; is = refl }
 
   -- the byte at an address, and those behind it
-  next : {at : ℕ} → at < 256 → SoFar at
+  next : {at : ℕ} → at < 256 → SoFar memory other at
       → same_bytes 16 0xF0 memory other ≡ (eqb (get_or memory at 0) (get_or other at 0) && same_bytes (256 - (at + 1)) (at + 1) memory other)
   unfolding same_bytes
   next {at} h so = let more : 256 - at ≡ suc (256 - (at + 1)) = omega arith in rw more at so.is
 
-  one_more : {at : ℕ} → at < 256 → SoFar at → get_or memory at 0 ≡ get_or other at 0 → SoFar (at + 1)
+  one_more : {at : ℕ} → at < 256 → SoFar memory other at → get_or memory at 0 ≡ get_or other at 0 → SoFar memory other (at + 1)
   one_more h so e = record { within = omega arith; is = rw (eq-eqb _ _ e) at (next h so) }
 
-  parted : {at : ℕ} → at < 256 → SoFar at → (get_or memory at 0 ≡ get_or other at 0 → ⊥) → false ≡ same_bytes 16 0xF0 memory other
+  parted : {at : ℕ} → at < 256 → SoFar memory other at → (get_or memory at 0 ≡ get_or other at 0 → ⊥) → false ≡ same_bytes 16 0xF0 memory other
   parted h so e = sym (rw (ne_eqb _ _ e) at (next h so))
 
-  all : {at : ℕ} → SoFar at → 256 ≤ at → true ≡ same_bytes 16 0xF0 memory other
+  all : {at : ℕ} → SoFar memory other at → 256 ≤ at → true ≡ same_bytes 16 0xF0 memory other
   unfolding same_bytes
   all {at} so h = let none : 256 - at ≡ 0 = omega arith in sym (rw none at so.is)
 

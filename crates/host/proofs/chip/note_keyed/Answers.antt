@@ -4,21 +4,15 @@ use Prim.Native.Nat.{ℕ, suc, ◌+◌, ◌-◌, ◌*◌, ◌/◌, ◌%◌, ◌<
 use mathlib.Core.Path.{◌≡◌, refl, sym}
 use mathlib.Core.Bool.{cond}
 use mathlib.Core.List.{List}
-use mathlib.Core.Logic.{⊎_elim}
 use native.Mathlib.Omega.{arith}
 use lib.Dec.{eqb}
 use lib.ListN.{length, get_or, set, length-set}
 use borrow.Author.Rules.{rules}
 use borrow.Author.Tests.{eq-eqb, ne_eqb}
 use Rattle.host.specs.Chip.{keyed}
+use Rattle.host.proofs.chip.note_keyed.Invariants.{SoFar}
 use Rattle.host.proofs.chip.note_keyed.Goals as goal
 use Rattle.host.proofs.chip.note_keyed.Goals.{else-rest-eq1, then-rest-eq1}
-
--- So many voices are done, and these bits and this row are left.
-pub record SoFar (bits : ℕ) (start : List ℕ) (voice rest : ℕ) (chip : List ℕ) : Type 0 where
-  pub within : voice ≤ 8
-  pub size : length chip ≡ 512
-  pub is : keyed 8 0 bits start ≡ keyed (8 - voice) voice rest chip
 
 begun : (bits : ℕ) (start : List ℕ) → length start ≡ 512 → SoFar bits start 0 bits start
 begun bits start size = record { within = omega arith; size = size; is = refl }
@@ -47,19 +41,14 @@ all {voice = voice} h so = let none : 8 - voice ≡ 0 = omega arith in sym (rw n
 pub loop-voice-init : goal.loop-voice-init
 loop-voice-init c = search (rules, begun)
 
-pub overflow_cast-number : goal.overflow_cast-number
-overflow_cast-number c = omega (arith, c.type_inv.chip (16 * c.loop-voice.voice + 4))
-
-pub overflow_add-chip : goal.overflow_add-chip
-overflow_add-chip c = omega (arith, c.type_inv.chip (16 * c.loop-voice.voice + 4))
-
-pub bounds-chip-number : goal.bounds-chip-number
-bounds-chip-number c = omega (arith, c.type_inv.chip (16 * c.loop-voice.voice + 4))
-
 pub loop-voice-preserved : goal.loop-voice-preserved
-loop-voice-preserved c = let more = c.loop-voice-test.true in
+loop-voice-preserved c =
+    let more = c.loop-voice-test.true in
     let so = c.loop-voice.invariant in
-    elim c.if-rest-eq1.branch [ then-rest-eq1 w ↦ one-keyed more so w.0.taken w.2 | else-rest-eq1 w ↦ none-keyed more so w.0.left w.1 ]
+    elim c.if-rest-eq1.branch [
+      | then-rest-eq1 w ↦ one-keyed more so w.if-rest-eq1.true w.chip-is
+      | else-rest-eq1 w ↦ none-keyed more so w.if-rest-eq1.false w.chip-is
+    ]
 
 pub returns : goal.returns
 returns c = search (rules, all)

@@ -1,17 +1,17 @@
 -- From each voice on, what is left to do gives what all eight give from the start.
 -- Assumes nothing.
-use Prim.Native.Nat.{ℕ, suc, ◌+◌, ◌-◌, ◌*◌, ◌/◌, ◌%◌, ◌<◌, ◌≤◌}
-use mathlib.Core.Path.{◌≡◌, refl, sym}
-use mathlib.Core.Bool.{cond}
+use Prim.Native.Nat.{ℕ, ◌-◌, ◌≤◌}
+use mathlib.Core.Path.{◌≡◌}
 use mathlib.Core.List.{List}
-use mathlib.Core.Logic.{⊎_elim}
-use native.Mathlib.Omega.{arith}
-use lib.Dec.{eqb}
-use lib.ListN.{length, get_or, set, length-set}
-use borrow.Author.Rules.{rules}
-use borrow.Author.Tests.{eq-eqb, ne_eqb}
+use lib.ListN.{length}
 use Rattle.host.specs.Chip.{keyed}
 use Rattle.host.proofs.chip.note_keyed.Given as goal
+
+-- So many voices are done, and these bits and this row are left.
+pub record SoFar (bits : ℕ) (start : List ℕ) (voice rest : ℕ) (chip : List ℕ) : Type 0 where
+  pub within : voice ≤ 8
+  pub size : length chip ≡ 512
+  pub is : keyed 8 0 bits start ≡ keyed (8 - voice) voice rest chip
 
 abbrev pub invariant-loop-voice : goal.invariant-loop-voice
 invariant-loop-voice l = SoFar l.bits l.initial.chip l.voice l.rest l.chip

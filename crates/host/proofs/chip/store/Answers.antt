@@ -35,10 +35,13 @@ pub returns-then-register-ge128 : goal.returns-then-register-ge128
 returns-then-register-ge128 c = search (rules, nowhere)
 
 pub fetch_voices-requires : goal.fetch_voices-requires
-fetch_voices-requires c = (omega (arith, simp length-set at c.note-keyed.auto.1.0), search rules)
+fetch_voices-requires c = record {
+  in_bounds = omega (arith, simp length-set at c.note_keyed.auto.chip);
+  fetching = search rules;
+}
 
 pub shape_of-chip-then-register-eq76 : goal.shape_of-chip-then-register-eq76
-shape_of-chip-then-register-eq76 c = simp length-set at c.note-keyed.auto.1.0
+shape_of-chip-then-register-eq76 c = simp length-set at c.note_keyed.auto.chip
 
 pub returns-then-register-eq76 : goal.returns-then-register-eq76
 returns-then-register-eq76 c = search (rules, keys)

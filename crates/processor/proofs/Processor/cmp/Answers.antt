@@ -1,6 +1,5 @@
 -- C is the definition's own test, and N Z are those of the difference that it names.
 -- Assumes nothing.
-use Rattle.std.proofs.Common.{rules}
 use Rattle.processor.proofs.Processor.cmp.Goals as goal
 
 pub returns : goal.returns

@@ -1,6 +1,5 @@
 -- The definition's difference, handed on by `mov`.
 -- Assumes nothing.
-use Rattle.std.proofs.Common.{rules}
 use Rattle.processor.proofs.Processor.dec.Goals as goal
 
 pub returns : goal.returns

@@ -1,6 +1,5 @@
 -- The status word's default has every flag clear.
 -- Assumes nothing.
-use Rattle.std.proofs.Common.{rules}
 use Rattle.processor.proofs.Processor.default.Goals as goal
 
 pub returns : goal.returns

@@ -1,6 +1,5 @@
 -- The definition's sum, handed on by `mov`.
 -- Assumes nothing.
-use Rattle.std.proofs.Common.{rules}
 use Rattle.processor.proofs.Processor.inc.Goals as goal
 
 pub returns : goal.returns

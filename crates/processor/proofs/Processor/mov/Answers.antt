@@ -1,6 +1,5 @@
 -- N Z are those that `set_nz` gives.
 -- Assumes nothing.
-use Rattle.std.proofs.Common.{rules}
 use Rattle.processor.proofs.Processor.mov.Goals as goal
 
 pub returns : goal.returns

@@ -1,6 +1,5 @@
 -- N Z are those that `set_nz_word` gives.
 -- Assumes nothing.
-use Rattle.std.proofs.Common.{rules}
 use Rattle.processor.proofs.Processor.mov_word.Goals as goal
 
 pub returns : goal.returns

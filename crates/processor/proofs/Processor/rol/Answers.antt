@@ -1,6 +1,5 @@
 -- The bit that comes in is the old carry as a number, at most 1.
 -- Assumes nothing.
-use Rattle.std.proofs.Common.{rules}
 use Rattle.processor.proofs.Processor.rol.Goals as goal
 
 pub returns : goal.returns

@@ -1,6 +1,5 @@
 -- As for `rol`: the bit that comes in is the old carry.
 -- Assumes nothing.
-use Rattle.std.proofs.Common.{rules}
 use Rattle.processor.proofs.Processor.ror.Goals as goal
 
 pub returns : goal.returns

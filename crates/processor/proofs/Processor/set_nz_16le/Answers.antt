@@ -1,6 +1,5 @@
 -- The word of the two bytes is the one that `word` gives.
 -- Assumes nothing.
-use Rattle.std.proofs.Common.{rules}
 use Rattle.processor.proofs.Processor.set_nz_16le.Goals as goal
 
 pub returns : goal.returns

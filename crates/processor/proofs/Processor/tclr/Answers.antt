@@ -1,6 +1,5 @@
 -- As for `tset`, with the bits cleared.
 -- Assumes nothing.
-use Rattle.std.proofs.Common.{rules}
 use Rattle.processor.proofs.Processor.tclr.Goals as goal
 
 pub returns : goal.returns

@@ -1,6 +1,5 @@
 -- V and H are the definition's own tests of the old values, stored before `set_nz` sets N Z.
 -- Assumes nothing.
-use Rattle.std.proofs.Common.{rules}
 use Rattle.processor.proofs.Processor.with_quotient.Goals as goal
 
 pub returns : goal.returns

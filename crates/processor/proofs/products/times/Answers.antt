@@ -1,7 +1,7 @@
 -- The invariant is `Summed`; the measure is what is left of `a`, which each round halves.
 -- Assumes nothing.
-use Rattle.std.proofs.Common.{⊎_elim, arith, rules}
-use Rattle.processor.proofs.Bits.{Summed, begun, added, passed, sum_fits, doubled_fits, whole}
+use Rattle.std.proofs.Common.{rules}
+use Rattle.processor.proofs.Bits.{begun, added, passed, sum_fits, doubled_fits, whole}
 use Rattle.processor.proofs.products.times.Goals as goal
 use Rattle.processor.proofs.products.times.Goals.{else-bits-eq1, then-bits-eq1}
 

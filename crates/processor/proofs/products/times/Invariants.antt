@@ -1,7 +1,6 @@
 -- The invariant is `Summed`; the measure is what is left of `a`, which each round halves.
 -- Assumes nothing.
-use Rattle.std.proofs.Common.{⊎_elim, arith, rules}
-use Rattle.processor.proofs.Bits.{Summed, begun, added, passed, sum_fits, doubled_fits, whole}
+use Rattle.processor.proofs.Bits.{Summed}
 use Rattle.processor.proofs.products.times.Given as goal
 
 abbrev pub invariant-loop-bits : goal.invariant-loop-bits

@@ -1,6 +1,5 @@
 -- The code's two sums are the definition's, a term for each flag.
 -- Assumes nothing.
-use borrow.Author.Rules.{rules}
 use Rattle.psw.specs.Status.{byte_of}
 use Rattle.psw.proofs.ProgramStatusWord.to_byte.Goals as goal
 

@@ -1,20 +1,11 @@
 -- After i turns the buffer's first i bytes are the first i of the shown text, and the rest is as it was.
 -- The loop runs for as many turns as the text has bytes, and only where the buffer holds them.
 -- Assumes nothing.
-use Prim.Native.Nat.{ℕ, ◌+◌, ◌-◌, ◌<◌, ◌≤◌}
-use mathlib.Core.Path.{◌≡◌, refl, sym, ◌∙◌}
-use mathlib.Core.List.{List, ◌++◌}
-use mathlib.Core.Logic.{⊎_elim}
-use native.Mathlib.Nat.{zero-add}
-use native.Mathlib.Numerals.{add-one}
-use native.Mathlib.Omega.{arith}
-use lib.ListN.{length, get_or, set, take, drop, length-take}
-use lib.Seq.{get_or-take, take-length, length-take-le, length_front, paste-suc}
-use borrow.Author.Rules.{rules}
-use borrow.Author.Tests.{le-leb, lt-leb}
-use Rattle.text.specs.declared.Line.{Line}
+use Prim.Native.Nat.{◌-◌, ◌≤◌}
+use mathlib.Core.Path.{◌≡◌}
+use mathlib.Core.List.{◌++◌}
+use lib.ListN.{length, take, drop}
 use Rattle.text.specs.Line.{shown}
-use Rattle.text.specs.Given.{Given, says, accepted, refused}
 use Rattle.text.proofs.Line.give.Given as goal
 
 abbrev pub invariant-loop-i : goal.invariant-loop-i

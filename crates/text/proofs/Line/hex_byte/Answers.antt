@@ -1,6 +1,5 @@
 -- Two pushes are the two bytes added in order.
 -- Assumes nothing.
-use borrow.Author.Rules.{rules}
 use Rattle.text.specs.Line.{adds}
 use Rattle.text.proofs.Line.hex_byte.Goals as goal
 

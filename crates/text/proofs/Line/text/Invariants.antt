@@ -1,16 +1,9 @@
 -- After i turns the line is the first one with the first i bytes of the text behind it.
 -- Assumes nothing.
-use Prim.Native.Nat.{ℕ, ◌+◌, ◌-◌, ◌<◌, ◌≤◌}
-use mathlib.Core.Path.{◌≡◌, refl}
-use mathlib.Core.List.{List}
-use native.Mathlib.Numerals.{add-one}
-use native.Mathlib.Omega.{arith}
-use lib.ListN.{length, get_or, take}
-use lib.Seq.{take-suc, take-length}
-use borrow.Author.Rules.{rules}
-use Rattle.text.specs.declared.Line.{Line}
-use Rattle.text.specs.Line.{pushed, adds}
-use Rattle.text.proofs.Laws.{adds_push}
+use Prim.Native.Nat.{◌-◌, ◌≤◌}
+use mathlib.Core.Path.{◌≡◌}
+use lib.ListN.{length, take}
+use Rattle.text.specs.Line.{adds}
 use Rattle.text.proofs.Line.text.Given as goal
 
 abbrev pub invariant-loop-i : goal.invariant-loop-i

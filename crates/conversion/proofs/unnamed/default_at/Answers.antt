@@ -7,8 +7,7 @@ use lib.ListN.{get_or}
 use borrow.Author.Rules.{rules}
 use Rattle.conversion.specs.Unnamed.{unnamed, first_four, place_at, Unnamed}
 use Rattle.conversion.specs.Defaults.{each_stretch, not_both}
-use Rattle.conversion.proofs.unnamed.default_at.Statement.{statement}
-use Rattle.conversion.proofs.unnamed.default_at.Tie as tie
+use Rattle.conversion.proofs.unnamed.default_at.Goals as goal
 
 first_four_lem : (i : ℕ) → i < 4 → {at : ℕ} → at ≡ 33 + i → place_at at ≡ unnamed (get_or first_four i 0)
 first_four_lem i h {at} e =
@@ -33,20 +32,17 @@ elsewhere {at} u a b c d =
     (λ h v. refl)
     u
 
-returns : tie.Need-returns
-returns c = first_four_lem 0 (omega arith) (search rules)
+pub returns-in-33 : goal.returns-in-33
+returns-in-33 c = first_four_lem 0 (omega arith) (search rules)
 
-returns-2 : tie.Need-returns-2
-returns-2 c = first_four_lem 1 (omega arith) (search rules)
+pub returns-in-34 : goal.returns-in-34
+returns-in-34 c = first_four_lem 1 (omega arith) (search rules)
 
-returns-3 : tie.Need-returns-3
-returns-3 c = first_four_lem 2 (omega arith) (search rules)
+pub returns-in-35 : goal.returns-in-35
+returns-in-35 c = first_four_lem 2 (omega arith) (search rules)
 
-returns-4 : tie.Need-returns-4
-returns-4 c = first_four_lem 3 (omega arith) (search rules)
+pub returns-in-36 : goal.returns-in-36
+returns-in-36 c = first_four_lem 3 (omega arith) (search rules)
 
-returns-5 : tie.Need-returns-5
-returns-5 c = search (rules, elsewhere)
-
-pub default_at_spec : {M : Type 1} → statement M
-default_at_spec = tie.close (tie.spec returns returns-2 returns-3 returns-4 returns-5)
+pub returns-in_default : goal.returns-in_default
+returns-in_default c = search (rules, elsewhere)

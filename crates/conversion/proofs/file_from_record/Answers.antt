@@ -1,6 +1,6 @@
 -- With signature and defaults in it, the lent file is like a new one wherever the write that follows does not store.
 -- Assumes nothing.
-use Prim.Native.Nat.{ℕ, ◌≤◌}
+use Prim.Native.Nat.{ℕ}
 use mathlib.Core.Path.{◌≡◌, sym, ap, subst, ◌∙◌}
 use mathlib.Core.Bool.{true}
 use mathlib.Core.List.{List, ◌++◌}
@@ -10,7 +10,6 @@ use lib.Seq.{length-take-le, take_at}
 use borrow.Author.Rules.{rules}
 use borrow.Author.Tests.{eq-eqb, ne_eqb}
 use borrow.Author.Rules.{part_to_end}
-use Rattle.laws.specs.Stored.{whole_part}
 use Rattle.laws.specs.Filled.{filled}
 use Rattle.waking.specs.States.{is_awake}
 use Rattle.processor.specs.declared.Processor.{Processor}
@@ -23,8 +22,7 @@ use Rattle.spc_file.specs.Theorems.{Accepted, writes, lays}
 use Rattle.conversion.specs.Unnamed.{with_defaults}
 use Rattle.conversion.specs.Calls.{to_file_refusal, new_file, file_of, file_from_record}
 use Rattle.conversion.specs.Theorems.{Plain, signature_size, made_plain, new_plain, plain_alike, takes_record}
-use Rattle.conversion.proofs.file_from_record.Statement.{statement}
-use Rattle.conversion.proofs.file_from_record.Tie as tie
+use Rattle.conversion.proofs.file_from_record.Goals as goal
 
 module _ (state file : List ℕ) where
   wrong-record : (length state ≡ 65543 → ⊥) → filled 6 file ≡ file_from_record state file
@@ -40,14 +38,12 @@ module _ (state file : List ℕ) where
     seven = length-take-le 7 state (omega arith)
 
   module _ (s : length state ≡ 65543) (f : length file ≡ 66048) where
-    room : 33 ≤ length (take 33 file)
-    room = rw length-take (omega arith)
+    room : length (take 33 file) ≡ 33
+    room = length-take-le 33 file (omega arith)
 
     -- the signature, copied to the file's beginning, is there
-    signed : {copied : List ℕ} → copied ≡ take 33 signature ++ drop 33 (take 33 file) → Accepted (copied ++ drop 33 file)
-    signed {copied} c =
-        let as_long : length signature ≡ length (take 33 file) = signature_size ∙ sym (length-take-le 33 file (omega arith)) in
-        let all : copied ≡ signature = c ∙ rw signature_size at (whole_part signature (take 33 file) as_long) in
+    signed : {copied : List ℕ} → copied ≡ signature → Accepted (copied ++ drop 33 file)
+    signed {copied} all =
         let size : length copied ≡ 33 = ap length all ∙ signature_size in
         record {
           size = omega (arith, length-append copied (drop 33 file), length-drop 33 file);
@@ -56,7 +52,7 @@ module _ (state file : List ℕ) where
 
     made : {copied defaulted part left : List ℕ} {cpu : Processor} {r : ℕ}
         → filled r left ≡ write_of cpu part defaulted
-        → copied ≡ take 33 signature ++ drop 33 (take 33 file)
+        → copied ≡ signature
         → defaulted ≡ with_defaults (copied ++ drop 33 file)
         → cpu ≡ registers_of (take 7 state)
         → part ≡ drop 7 state
@@ -72,68 +68,24 @@ module _ (state file : List ℕ) where
         ∙ ap (λ (m : List ℕ). filled 0 (laid (registers_of (take 7 state)) m new_file)) p
         ∙ sym (not_refused (to_file_refusal state file) (file_of state) file (takes_record state file s f))
 
-returns : tie.Need-returns
-returns c = search (rules, wrong-record)
+pub returns-then-record-ne65543 : goal.returns-then-record-ne65543
+returns-then-record-ne65543 c = search (rules, wrong-record)
 
-returns-2 : tie.Need-returns-2
-returns-2 c = search (rules, wrong-file)
+pub returns-then-file-ne66048 : goal.returns-then-file-ne66048
+returns-then-file-ne66048 c = search (rules, wrong-file)
 
-slice-aggregate-copy : tie.Need-slice-aggregate-copy
-slice-aggregate-copy c = search rules
+pub slice_bounds-copy_from_slice-end-2 : goal.slice_bounds-copy_from_slice-end-2
+slice_bounds-copy_from_slice-end-2 c = simp length-take (omega arith)
 
-slice-relend-prefix-copy : tie.Need-slice-relend-prefix-copy
-slice-relend-prefix-copy c = search rules
+pub copy_from_slice-requires : goal.copy_from_slice-requires
+copy_from_slice-requires c = room c.args.record.now c.args.file.now c.if-record-ne65543.false c.if-file-ne66048.false
 
-slice-aggregate-copy-2 : tie.Need-slice-aggregate-copy-2
-slice-aggregate-copy-2 c = simp length-take (omega arith)
+pub slice_bounds-registers-end : goal.slice_bounds-registers-end
+slice_bounds-registers-end c = simp length-take (omega arith)
 
-copy-requires : tie.Need-copy-requires
-copy-requires c κs = search (rules, room)
+pub registers-cpu-requires : goal.registers-cpu-requires
+registers-cpu-requires c = search (rules, seven)
 
-set-defaults-requires : tie.Need-set-defaults-requires
-set-defaults-requires c κs = search rules
-
-slice-aggregate-registers : tie.Need-slice-aggregate-registers
-slice-aggregate-registers c = simp length-take (omega arith)
-
-registers-requires : tie.Need-registers-requires
-registers-requires c κs = search (rules, seven)
-
-sub-write : tie.Need-overflow-sub-write
-sub-write c = search rules
-
-part-write-start : tie.Need-slice-bounds-write-start
-part-write-start c = search rules
-
-part-write-end : tie.Need-slice-bounds-write-end
-part-write-end c = search rules
-
-write-requires : tie.Need-write-requires
-write-requires c κs = search rules
-
-same_length : tie.Need-same-length
-same_length c = search rules
-
-returns-3 : tie.Need-returns-3
+pub returns : goal.returns
 unfolding signature
-returns-3 c = search (rules, made, part_to_end)
-
-pub file_from_record_spec : {M : Type 1} → statement M
-file_from_record_spec =
-    tie.close
-    (tie.spec
-    returns
-    returns-2
-    slice-aggregate-copy
-    slice-relend-prefix-copy
-    slice-aggregate-copy-2
-    copy-requires
-    set-defaults-requires
-    slice-aggregate-registers
-    registers-requires
-    sub-write
-    part-write-start
-    part-write-end
-    write-requires
-    same_length
-    returns-3)
+returns c = search (rules, made, part_to_end)

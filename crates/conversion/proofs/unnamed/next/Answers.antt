@@ -4,10 +4,9 @@ use Prim.Native.Nat.{ℕ, ◌+◌, ◌<◌, ◌≤◌}
 use mathlib.Core.Path.{◌≡◌, refl}
 use native.Mathlib.Omega.{arith}
 use borrow.Author.Rules.{rules}
-use Rattle.conversion.specs.Unnamed.{unnamed, named, place_at, Unnamed}
+use Rattle.conversion.specs.Unnamed.{named, place_at, Unnamed}
 use Rattle.conversion.specs.Defaults.{each_stretch, named_at, unnamed_at, not_both, Next}
-use Rattle.conversion.proofs.unnamed.next.Statement.{statement}
-use Rattle.conversion.proofs.unnamed.next.Tie as tie
+use Rattle.conversion.proofs.unnamed.next.Goals as goal
 
 -- Past a stretch of bytes that have a name.
 past : {at to : ℕ} (from : ℕ) → at ≡ from → from < to → to ≤ 66048 → ((i : ℕ) → from < i → i < to → place_at i ≡ named)
@@ -30,25 +29,17 @@ one_on {at} u h not-36 not_255 =
         (λ h v. unnamed_at (at + 1) (λ a. omega arith) (λ a b. omega arith) (λ a b. omega arith))
         u
 
-add-result : tie.Need-overflow-add-result
-add-result c = search rules
-
-returns : tie.Need-returns
+pub returns-in-36 : goal.returns-in-36
 unfolding place_at
-returns c =
-    past 36 (search rules) (omega arith) (omega arith)
+returns-in-36 c = past 36 (search rules) (omega arith) (omega arith)
     (λ i h k. named_at i (λ a b. omega arith) (λ a b. omega arith) (λ a. omega arith))
     (record { default = 0; is = refl })
 
-returns-2 : tie.Need-returns-2
+pub returns-in-255 : goal.returns-in-255
 unfolding place_at
-returns-2 c =
-    past 255 (search rules) (omega arith) (omega arith)
+returns-in-255 c = past 255 (search rules) (omega arith) (omega arith)
     (λ i h k. named_at i (λ a b. omega arith) (λ a b. omega arith) (λ a. omega arith))
     (record { default = 0; is = refl })
 
-returns-3 : tie.Need-returns-3
-returns-3 c = search (rules, one_on)
-
-pub next_spec : {M : Type 1} → statement M
-next_spec = tie.close (tie.spec add-result returns returns-2 returns-3)
+pub returns-in_default : goal.returns-in_default
+returns-in_default c = search (rules, one_on)
