@@ -5,12 +5,11 @@ import re
 import shutil
 import subprocess
 import sys
-import time
 
 from ends import Failed
 
 ROOT = pathlib.Path(__file__).resolve().parent.parent
-RUN = str(ROOT / "tools" / "program")
+RUN, BUILD = str(ROOT / "tools" / "program"), str(ROOT / "tools" / "build")
 # the programs that were found to be current, or made so, since the command began
 CURRENT = set()
 
@@ -21,11 +20,16 @@ def path(name):
 
 
 def sources():
-    """Every file that a program is made of."""
+    """Every file that a program is made of, as tools/build has them: rt puts a folder out into a crate's own, which so tells nothing."""
+    crates = ROOT / "crates"
     yield ROOT / "crates.txt"
-    for folder, _, names in os.walk(ROOT / "crates"):
-        yield pathlib.Path(folder)
-        yield from (pathlib.Path(folder, name) for name in names)
+    for folder, folders, names in os.walk(crates):
+        at = pathlib.Path(folder)
+        if at.parent == crates:
+            folders[:] = [name for name in folders if name != "out"]
+        elif at != crates:
+            yield at
+        yield from (at / name for name in names)
 
 
 def is_current(program):
@@ -54,26 +58,23 @@ def build(*names):
 def make(missing):
     """Proves and builds programs, and says a line for each crate as it is done."""
     say(f"proving and building {' and '.join(missing)}; this may take some minutes")
-    started = time.time_ns()
     printed, status = checked(missing)
     for name in missing:
         if status or not os.access(path(name), os.X_OK):
             sys.stderr.write(printed)
             raise Failed(f"{name} could not be built")
-        # rt leaves a program alone that need not change; the time is that of the start, so that what was edited since then is newer
-        os.utime(path(name), ns=(started, started))
 
 
 def checked(names):
-    """What a check of these programs prints, and its status; a crate that is proved is told at once."""
+    """What tools/build prints of these programs, and its status; a crate that is proved is told at once."""
     printed = []
-    with subprocess.Popen(["rt", "check", *names], cwd=ROOT, stdout=subprocess.PIPE, stderr=subprocess.STDOUT, text=True) as check:
-        for line in check.stdout:
+    with subprocess.Popen([BUILD, *names], stdout=subprocess.PIPE, stderr=subprocess.STDOUT, text=True) as building:
+        for line in building.stdout:
             printed.append(line)
-            proved = re.match(r"rt: (.* proved .*)", line)
+            proved = re.match(r"build: (.* proved)", line)
             if proved:
                 say(proved.group(1))
-    return "".join(printed), check.returncode
+    return "".join(printed), building.returncode
 
 
 def answer(name, given):

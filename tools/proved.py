@@ -14,7 +14,7 @@ def path(name):
     """The file of a program."""
     file = ROOT / "target" / "bin" / name
     if not file.exists():
-        sys.exit(f"{ASKING}: there is no target/bin/{name}: 'rt check {name}' makes it")
+        sys.exit(f"{ASKING}: there is no target/bin/{name}: 'tools/build {name}' makes it")
     return file
 
 

@@ -1,4 +1,3 @@
 pub mod Unnamed
 pub mod Calls
 pub mod Defaults
-pub mod Theorems

@@ -25,7 +25,7 @@ module _ (has-map : Bool) (map : List ℕ) where
     where
       go : (n at : ℕ) → some_from (marks_of has-map map) at n ≡ false
       go zero at = refl
-      go (suc n) at = rw e (rw e at (go n (suc at)))
+      go (suc n) at = rw e (go n (suc at))
 
   pub sized : Usable has-map map → has-map ≡ true → length map ≡ 8192
   sized u e = u.size e

@@ -37,8 +37,7 @@ fn hand_back(registers: &mut [u8], ran: Ran) -> u64
 
 // One step in an edition, which is a number, or none of a record that is not awake. Refusals: 6 registers that are not eight bytes with 0,
 // 1 or 2 as the last, 9 an edition that is neither 1 nor 2, 1 memory that is not 65,536 bytes, 2 a map that is not 8,192 bytes.
-#[unsafe(no_mangle)]
-pub extern "C" fn spc700_step(
+pub fn spc700_step(
     registers: &mut [u8],
     edition: u8,
     memory: &mut [u8],
@@ -56,8 +55,7 @@ pub extern "C" fn spc700_step(
 }
 
 // A run of at most `budget` steps, or of none where the record is not awake. Refusals as for a step.
-#[unsafe(no_mangle)]
-pub extern "C" fn spc700_run(
+pub fn spc700_run(
     registers: &mut [u8],
     edition: u8,
     budget: u32,
@@ -76,8 +74,7 @@ pub extern "C" fn spc700_run(
 }
 
 // Sets the record awake, and changes nothing else. Refusal: 6 as for a step.
-#[unsafe(no_mangle)]
-pub extern "C" fn spc700_wake(registers: &mut [u8]) -> u64
+pub fn spc700_wake(registers: &mut [u8]) -> u64
     ensures { Fills wake_call (lent registers) result }
 {
     if !state::is_whole(registers) {
@@ -90,8 +87,7 @@ pub extern "C" fn spc700_wake(registers: &mut [u8]) -> u64
 
 // How many addresses two maps mark as read only, as stored to only, and as both: three numbers. Refusals: 6 a row that is not three numbers
 // long, 2 a map that is not 8,192 bytes.
-#[unsafe(no_mangle)]
-pub extern "C" fn spc700_counts(reads: &[u8], writes: &[u8], counts: &mut [u32]) -> u64
+pub fn spc700_counts(reads: &[u8], writes: &[u8], counts: &mut [u32]) -> u64
     ensures { Fills (counts_call reads.now writes.now) (lent counts) result }
 {
     if counts.len() != 3 {
@@ -110,8 +106,7 @@ pub extern "C" fn spc700_counts(reads: &[u8], writes: &[u8], counts: &mut [u32])
 // First and last address of every stretch at which two memories differ, two numbers each, into the row. The stop is 1 where there is a map,
 // that is where `has_map` is not 0, and a stretch touches one of its marks. Refusals: 1 a memory that is not 65,536 bytes, 2 a map, where
 // there is one, that is not 8,192 bytes, 3 a row that is too short.
-#[unsafe(no_mangle)]
-pub extern "C" fn spc700_differences(
+pub fn spc700_differences(
     first: &[u8],
     second: &[u8],
     has_map: u8,
@@ -126,8 +121,7 @@ pub extern "C" fn spc700_differences(
 
 // The byte at every address that the map does not mark, in place; the number is how many addresses these are. Refusals: 1 memory that is
 // not 65,536 bytes, 2 a map that is not 8,192 bytes.
-#[unsafe(no_mangle)]
-pub extern "C" fn spc700_blank(memory: &mut [u8], map: &[u8], byte: u8) -> u64
+pub fn spc700_blank(memory: &mut [u8], map: &[u8], byte: u8) -> u64
     ensures { Fills (blank_call map.now byte) (lent memory) result }
 {
     let blanked = blanking::blank(memory, map, byte);
@@ -135,8 +129,7 @@ pub extern "C" fn spc700_blank(memory: &mut [u8], map: &[u8], byte: u8) -> u64
 }
 
 // One instruction's text from its bytes. Refusals: 4 fewer bytes than the instruction has, 3 a buffer that is too short.
-#[unsafe(no_mangle)]
-pub extern "C" fn spc700_text(code: &[u8], text: &mut [u8]) -> u64
+pub fn spc700_text(code: &[u8], text: &mut [u8]) -> u64
     ensures { TextYields (listed_of code.now) (lent text) result }
 {
     let written = listing::instruction(code, text);
@@ -146,8 +139,7 @@ pub extern "C" fn spc700_text(code: &[u8], text: &mut [u8]) -> u64
 
 // The record of an SPC file, awake. Refusals: 6 registers that are not eight bytes, whatever they hold, 7 a file that is not 66,048 bytes,
 // 8 a file that begins otherwise.
-#[unsafe(no_mangle)]
-pub extern "C" fn spc700_file_read(file: &[u8], registers: &mut [u8]) -> u64
+pub fn spc700_file_read(file: &[u8], registers: &mut [u8]) -> u64
     ensures { Fills (file_read_call file.now) (lent registers) result }
 {
     if registers.len() != 8 {
@@ -164,8 +156,7 @@ pub extern "C" fn spc700_file_read(file: &[u8], registers: &mut [u8]) -> u64
 
 // Record and memory into an SPC file. Refusals: 6 as for a step, 7 and 8 as above, then 1 memory that is not 65,536 bytes, then 12 a record
 // that is not awake.
-#[unsafe(no_mangle)]
-pub extern "C" fn spc700_file_write(file: &mut [u8], registers: &[u8], memory: &[u8]) -> u64
+pub fn spc700_file_write(file: &mut [u8], registers: &[u8], memory: &[u8]) -> u64
     ensures { Fills (file_write_call registers.now memory.now) (lent file) result }
 {
     if !state::is_whole(registers) {
@@ -177,8 +168,7 @@ pub extern "C" fn spc700_file_write(file: &mut [u8], registers: &[u8], memory: &
 
 // A state record into an SPC file, of which every byte is written. Refusals: 6 a record that is not 65,543 bytes, 7 a file that is not
 // 66,048 bytes.
-#[unsafe(no_mangle)]
-pub extern "C" fn spc700_file_from_record(file: &mut [u8], record: &[u8]) -> u64
+pub fn spc700_file_from_record(file: &mut [u8], record: &[u8]) -> u64
     ensures { Fills (file_from_record_call «record».now) (lent file) result }
 {
     packed(conversion::file_from_record(file, record), 0, 0)
@@ -186,8 +176,7 @@ pub extern "C" fn spc700_file_from_record(file: &mut [u8], record: &[u8]) -> u64
 
 // An SPC file that holds nothing else into a state record. Refusals: 6 a record that is not 65,543 bytes, 7 and 8 as above, then 10 an
 // unnamed byte that is not its default.
-#[unsafe(no_mangle)]
-pub extern "C" fn spc700_record_from_file(record: &mut [u8], file: &[u8]) -> u64
+pub fn spc700_record_from_file(record: &mut [u8], file: &[u8]) -> u64
     ensures { Fills (record_from_file_call file.now) (lent «record») result }
 {
     packed(conversion::record_from_file(record, file), 0, 0)

@@ -10,13 +10,8 @@ use lib.ListN.{length, get_or, set, take, length-set}
 use lib.Seq.{take_all}
 use borrow.Author.Rules.{rules}
 use Rattle.blanking.specs.Together.{together}
+use Rattle.blanking.proofs.join.Invariants.{SoFar}
 use Rattle.blanking.proofs.join.Goals as goal
-
--- The first bytes of a map put together with another.
-record SoFar (map before other : List ℕ) (i : ℕ) : Type 0 where
-  within : i ≤ length map
-  size : length other ≡ length before
-  joined : other ≡ together (take i map) before
 
 begin : (map before : List ℕ) → SoFar map before before 0
 begin map before = record { within = omega arith; size = refl; joined = refl }

@@ -12,6 +12,12 @@ use borrow.Author.Rules.{rules}
 use Rattle.blanking.specs.Together.{together}
 use Rattle.blanking.proofs.join.Given as goal
 
+-- The first bytes of a map put together with another.
+pub record SoFar (map before other : List ℕ) (i : ℕ) : Type 0 where
+  pub within : i ≤ length map
+  pub size : length other ≡ length before
+  pub joined : other ≡ together (take i map) before
+
 abbrev pub invariant-loop-i : goal.invariant-loop-i
 invariant-loop-i l = SoFar l.map l.initial.other l.other l.i
 

@@ -12,14 +12,8 @@ use Rattle.boot_rom.specs.Inside.{read_back}
 use Rattle.boot_rom.proofs.Back.{length_back, get_back}
 use Rattle.boot_rom.proofs.Laid.{Laid}
 use Rattle.boot_rom.proofs.Part.{length_last, none_put, one_put, all_put}
+use Rattle.boot_rom.proofs.put_reads_back.Invariants.{back, SoFar}
 use Rattle.boot_rom.proofs.put_reads_back.Goals as goal
-
--- what is put there
-abbrev back : List ℕ → List ℕ → List ℕ → List ℕ
-back map₀ read stored = read_back (drop 8184 map₀) read stored
-
-record SoFar (map₀ read stored map : List ℕ) (i : ℕ) : Type 0 where
-  put : Laid map₀ (take 8184 map₀ ++ back map₀ read stored) map (8184 + i)
 
 module _ (map₀ read stored : List ℕ) (size : length map₀ ≡ 8192) where
   eight-back : length (back map₀ read stored) ≡ 8

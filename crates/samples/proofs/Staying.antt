@@ -5,7 +5,7 @@ use Rattle.std.proofs.Common.{◌∙◌, inl, inr, ⊎_elim}
 use Rattle.marks.specs.Maps.{is_marked, marked_unless}
 use Rattle.samples.specs.Fetched.{fetched, blocks, entry_of, sample, voices}
 use Rattle.samples.specs.Lengths.{length_marked_unless, length_fetched, length_blocks, length_voice}
-use Rattle.samples.specs.Exact.{adds_one}
+use Rattle.samples.proofs.Exact.{adds_one}
 
 module _ (writes : List ℕ) where
   -- A map that has all the marks of another, and others only where nothing is stored.

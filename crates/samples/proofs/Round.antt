@@ -11,7 +11,7 @@ use Rattle.std.proofs.lemmas.List.{set-get_or}
 use Rattle.marks.specs.Maps.{is_marked, marked, marked_unless}
 use Rattle.samples.specs.Fetched.{fetched, blocks}
 use Rattle.samples.specs.Addresses.{is_last, NoneLast, InBlocks}
-use Rattle.samples.specs.Exact.{adds_blocks, next_block, none_last}
+use Rattle.samples.proofs.Exact.{adds_blocks, next_block, none_last}
 
 -- ---- nine is odd
 
