@@ -70,5 +70,8 @@ all_parts packet memory image reads writes kept {watched} {blanked} e keeping a 
     (simp append_assoc)
 
 pub returns : goal.returns
-returns c = all_parts start.args.packet.now _ _ _ _ _ c.run_on.ensures c.keep-blanked.ensures c.all.ensures start.requires
-    (search rules) (search rules) (search rules) (search rules) (search rules)
+returns c =
+    let ran = c.run_on-watched.new in
+    let kept = c.keep-blanked.new in
+    all_parts c.args.packet.now ran.memory kept.image ran.reads ran.writes kept.kept c.run_on-watched.ensures c.keep-blanked.ensures
+    c.all.ensures c.requires (search rules) (search rules) (search rules) (search rules) (search rules)

@@ -4,7 +4,6 @@ use Prim.Native.Nat.{ℕ}
 use mathlib.Core.Path.{◌≡◌}
 use mathlib.Core.List.{List}
 use lib.ListN.{length}
-use borrow.Author.Rules.{rules}
 use Rattle.memory.specs.World.{Sized, world}
 use Rattle.auditor.specs.Packet.{bytes_at}
 use Rattle.auditor.specs.Inside.{world_in}
@@ -16,4 +15,6 @@ as_it_holds : (packet memory₀ reads₀ writes₀ : List ℕ) {memory reads wri
 as_it_holds packet memory₀ reads₀ writes₀ s m r w = rw (m, r, w, s.memory, s.reads, s.writes)
 
 pub returns : goal.returns
-returns c = search (rules, as_it_holds)
+returns c =
+    let a = c.args in
+    as_it_holds a.packet.now a.memory.now a.reads.now a.writes.now c.requires.ready c.fill.ensures c.fill-2.ensures c.fill-3.ensures

@@ -6,7 +6,6 @@ use mathlib.Core.List.{List}
 use native.Mathlib.Omega.{arith}
 use lib.ListN.{length, drop, length-drop}
 use lib.Seq.{length-take-le}
-use borrow.Author.Rules.{rules}
 use Rattle.laws.specs.Filled.{Filled, filled}
 use Rattle.blanking.specs.Calls.{blank_of}
 use Rattle.blanking.specs.Theorems.{not_refused}
@@ -36,4 +35,8 @@ module _ (packet reads image₀ kept₀ : List ℕ) (p : length packet ≡ 15571
       record { stays = is; left = ap (λ (f : Filled Blanked). f.left) done; count = ap (λ (f : Filled Blanked). f.answer.blanked) done }
 
 pub returns : goal.returns
-returns c = search (rules, kept-and-blanked)
+returns c =
+    let a = c.args in
+    let r = c.requires in
+    kept-and-blanked a.packet.now a.reads.now a.image.now a.kept.now r.of_packet r.of_reads r.of_image r.of_kept
+    c.fill.ensures c.join.ensures c.fill-2.ensures c.blank-blanked.ensures
