@@ -4,7 +4,8 @@
 use Rattle.std.specs.Prelude.{ℕ, ◌≡◌, refl, List, length}
 use Rattle.laws.specs.Bytes.{bytes_zeros}
 use Rattle.marks.specs.Counts.{counts_of}
-use Rattle.marks.specs.Sums.{marks_in, Sums, sums}
+use Rattle.marks.specs.Sums.{marks_in, Sums}
+use Rattle.marks.proofs.Sums.{sums}
 use Rattle.memory.specs.World.{World, Sized, world}
 use Rattle.editions.specs.declared.Edition.{Edition}
 use Rattle.processor.specs.declared.Processor.{Processor}
