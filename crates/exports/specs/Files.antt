@@ -12,7 +12,7 @@ use Rattle.state.specs.Theorems.{record_to_whole_and_back, bytes_whole, whole_to
 use Rattle.spc_file.specs.Calls.{refusal_of, file_read, read_of, memory_of, write_of}
 use Rattle.spc_file.specs.Theorems as spc
 use Rattle.conversion.specs.Calls.{file_from_record, record_from_file}
-use Rattle.conversion.proofs.Theorems as conversion
+use Rattle.conversion.proofs.BothWays as conversion
 use Rattle.exports.specs.Calls.{packed, numbered, file_read_call, file_write_call, file_from_record_call, record_from_file_call}
 
 -- ---- the calls, past the test of the registers

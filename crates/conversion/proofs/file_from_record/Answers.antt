@@ -21,7 +21,7 @@ use Rattle.spc_file.specs.Refused.{not_refused}
 use Rattle.spc_file.specs.Theorems.{Accepted, writes, lays}
 use Rattle.conversion.specs.Unnamed.{with_defaults}
 use Rattle.conversion.specs.Calls.{to_file_refusal, new_file, file_of, file_from_record}
-use Rattle.conversion.proofs.Theorems.{Plain, signature_size, made_plain, new_plain, plain_alike, takes_record}
+use Rattle.conversion.specs.Theorems.{Plain, signature_size, made_plain, new_plain, plain_alike, takes_record}
 use Rattle.conversion.proofs.file_from_record.Goals as goal
 
 module _ (state file : List ℕ) where
