@@ -3,7 +3,7 @@
 -- is at most 2 and that there are no more steps than the budget is proved of the definition (Bounds), and that there are no more marks
 -- than addresses of any two maps (marks/specs/Sums).
 -- Assumes nothing.
-use Rattle.std.specs.Prelude.{ℕ, ◌+◌, ◌<◌, ◌≤◌, ◌≡◌, Bool, cond, List, eqb, length, take, drop}
+use Rattle.std.specs.Prelude.{ℕ, ◌<◌, ◌≤◌, ◌≡◌, Bool, cond, List, eqb, length, take, drop}
 use Rattle.std.proofs.Math.Bool.{true, false}
 use native.Mathlib.Omega.{arith}
 use Rattle.std.proofs.Common.{length-append}
@@ -14,7 +14,6 @@ use Rattle.text.proofs.Laws.{length_decimal, shown_adds}
 use Rattle.psw.specs.Theorems.{text_length}
 use Rattle.psw.specs.declared.ProgramStatusWord.{ProgramStatusWord}
 use Rattle.processor.specs.Text.{registers_text}
-use Rattle.marks.specs.Counts.{counts_of}
 use Rattle.marks.specs.Sums.{few}
 use Rattle.memory.specs.World.{World}
 use Rattle.memory.specs.Access.{Outcome}

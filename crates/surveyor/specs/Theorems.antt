@@ -185,11 +185,11 @@ differences_short touch first second = answer_short touch (stretches_of first se
 each_short : (input : List ℕ) → Short (survey_of input)
 unfolding survey_of
 each_short input =
-    either_short (eqb (length input) 8192) of_map
+    either_short (eqb (length input) 8192) of-map
     (either_short (eqb (length input) 131072) of-memories (either_short (eqb (length input) 139264) of-all refused))
   where
-    of_map : Short (of_map input)
-    of_map = answer_short false (marked_stretches input) (at_most input)
+    of-map : Short (of_map input)
+    of-map = answer_short false (marked_stretches input) (at_most input)
 
     of-memories : Short (of_memories input)
     of-memories = differences_short false (take 65536 input) (drop 65536 input)
