@@ -20,15 +20,15 @@ use Rattle.conversion.specs.Calls.{to_file_refusal, new_file, file_of, file_from
 use Rattle.conversion.specs.Theorems.{Plain, new_plain, plain_alike, plain_still, takes_record, took_record, takes_file, took_file}
 
 module _ (state : List ℕ) (size : length state ≡ 65543) where
-  behind-seven : length (drop 7 state) ≡ 65536
-  behind-seven = rw length-drop (omega arith)
+  behind_seven : length (drop 7 state) ≡ 65536
+  behind_seven = rw length-drop (omega arith)
 
   -- The file of a record holds nothing but the record,
   pub file_plain : Plain (file_of state)
-  file_plain = plain_still new_plain (registers_of (take 7 state)) (drop 7 state) behind-seven
+  file_plain = plain_still new_plain (registers_of (take 7 state)) (drop 7 state) behind_seven
 
-  seven-small : Bytes state → Bytes (take 7 state)
-  seven-small bytes at = go (dec_le 7 at)
+  seven_small : Bytes state → Bytes (take 7 state)
+  seven_small bytes at = go (dec_le 7 at)
     where
       go : Dec (7 ≤ at) → get_or (take 7 state) at 0 < 256
       go (yes far) = rw (get_or-eq_default (take 7 state) 0 {n = at} (rw (length-take-le 7 state (omega arith)) far)) (lit≤ tt)
@@ -39,20 +39,20 @@ module _ (state : List ℕ) (size : length state ≡ 65543) where
   unfolding registers_of
   record_again bytes =
       let cpu = registers_of (take 7 state) in
-      let seven = bytes_to_record_and_back (take 7 state) (seven-small bytes) (length-take-le 7 state (omega arith)) in
+      let seven = bytes_to_record_and_back (take 7 state) (seven_small bytes) (length-take-le 7 state (omega arith)) in
       ap (λ (c : Processor). bytes_of c ++ memory_in (file_of state))
-      (same_registers cpu (drop 7 state) new_file new_plain.accepted behind-seven)
-      ∙ ap (λ (m : List ℕ). bytes_of cpu ++ m) (same_memory cpu (drop 7 state) new_file new_plain.accepted behind-seven)
+      (same_registers cpu (drop 7 state) new_file new_plain.accepted behind_seven)
+      ∙ ap (λ (m : List ℕ). bytes_of cpu ++ m) (same_memory cpu (drop 7 state) new_file new_plain.accepted behind_seven)
       ∙ ap (λ (l : List ℕ). l ++ drop 7 state) seven
       ∙ take-append-drop 7 state
 
 module _ (file : List ℕ) where
-  seven-bytes : length (bytes_of (record_in file)) ≡ 7
+  seven_bytes : length (bytes_of (record_in file)) ≡ 7
   unfolding bytes_of
-  seven-bytes = refl
+  seven_bytes = refl
 
   pub record_size : Accepted file → length (record_of file) ≡ 65543
-  record_size a = omega (arith, length-append (bytes_of (record_in file)) (memory_in file), seven-bytes, memory_size a)
+  record_size a = omega (arith, length-append (bytes_of (record_in file)) (memory_in file), seven_bytes, memory_size a)
 
   -- The file of such a file's record is the file.
   pub file_again : Bytes file → Plain file → file_of (record_of file) ≡ file
@@ -60,8 +60,8 @@ module _ (file : List ℕ) where
   file_again bytes p =
       let cpu = record_in file in
       let memory = memory_in file in
-      ap (λ (l : List ℕ). laid (registers_of l) (drop 7 (record_of file)) new_file) (take_at (bytes_of cpu) memory 7 seven-bytes)
-      ∙ ap (λ (m : List ℕ). laid (registers_of (bytes_of cpu)) m new_file) (drop_at (bytes_of cpu) memory 7 seven-bytes)
+      ap (λ (l : List ℕ). laid (registers_of l) (drop 7 (record_of file)) new_file) (take_at (bytes_of cpu) memory 7 seven_bytes)
+      ∙ ap (λ (m : List ℕ). laid (registers_of (bytes_of cpu)) m new_file) (drop_at (bytes_of cpu) memory 7 seven_bytes)
       ∙ ap (λ (c : Processor). laid c memory new_file) (record_to_bytes_and_back cpu)
       ∙ plain_alike new_plain p cpu memory (memory_size p.accepted)
       ∙ same_file file bytes p.accepted

@@ -50,8 +50,8 @@ module _ (file : List ℕ) where
       go (yes d) = kept file d
       go (no n) = absurd (true≢false (sym e ∙ not_all file n))
 
-  not-each : (EachDefault file → ⊥) → all_default file ≡ false
-  not-each n = not_all file (λ e. n (kept file e))
+  not_each : (EachDefault file → ⊥) → all_default file ≡ false
+  not_each n = not_all file (λ e. n (kept file e))
 
 -- ---- files that hold nothing but a state record
 
@@ -133,7 +133,7 @@ module _ (file state : List ℕ) (size : length state ≡ 65543) where
   -- and is refused with 10 if not;
   pub refuses_file : Accepted file → (EachDefault file → ⊥) → to_record_refusal file state ≡ 10
   unfolding to_record_refusal
-  refuses_file a n = rw (eq-eqb _ _ size, eq-eqb _ _ (accepts a), not-each file n)
+  refuses_file a n = rw (eq-eqb _ _ size, eq-eqb _ _ (accepts a), not_each file n)
 
 -- accepted, it is such a file, and the lent record has its length.
 pub took_file : (file state : List ℕ) → to_record_refusal file state ≡ 0 → (length state ≡ 65543) × Plain file

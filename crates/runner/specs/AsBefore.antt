@@ -28,9 +28,9 @@ module _ (edition : Edition) (budget : ℕ) (cpu : Processor) (image : List ℕ)
   start : World
   start = world image clear clear
 
-  added-left : Added (played edition budget cpu image).left
+  added_left : Added (played edition budget cpu image).left
   unfolding start
-  added-left =
+  added_left =
       let t = trace (counted_step edition) budget cpu start in
       rw (accepted_sized edition budget cpu image size, run_replays (counted_step edition) budget cpu start)
       (added _ (sized_replay t start sized) (bytes_replay t start bytes))
@@ -49,4 +49,4 @@ module _ (edition : Edition) (budget : ℕ) (cpu : Processor) (image : List ℕ)
       (marks_in (played edition budget cpu image).left.writes)
       (counts_of (played edition budget cpu image).left.reads (played edition budget cpu image).left.writes).both
   unfolding closing_of
-  closing_as_before = rw (added-left.read, added-left.stored)
+  closing_as_before = rw (added_left.read, added_left.stored)
