@@ -34,12 +34,12 @@ module _ (p q : Packet) {refusal : ℕ} (is : refusal ≡ refusal_of_both p q) w
         go (yes e) = let second : refusal ≡ refusal_of q = is ∙ rw (eq-eqb _ _ e) in (e, sym second ∙ z)
         go (no m) = let first : refusal ≡ refusal_of p = is ∙ rw (ne_eqb _ _ m) in absurd (m (sym first ∙ z))
 
-    both-taken : Accepted p × Accepted q
-    both-taken = (accepted p neither.0, accepted q neither.1)
+    both_taken : Accepted p × Accepted q
+    both_taken = (accepted p neither.0, accepted q neither.1)
 
-    all-answered : {left right : Packet} → answers 0 left right ≡ played_both_on p q → answers 0 left right ≡ played_beside p q
+    all_answered : {left right : Packet} → answers 0 left right ≡ played_both_on p q → answers 0 left right ≡ played_beside p q
     unfolding played_beside
-    all-answered e = e ∙ rw (eq-eqb _ _ neither.0, eq-eqb _ _ neither.1)
+    all_answered e = e ∙ rw (eq-eqb _ _ neither.0, eq-eqb _ _ neither.1)
 
 -- What the two packets of a call are refused for, and that they are accepted behind the test.
 module _ (p q : Packet) {maps maps₂ : Bool} {one two refusal : ℕ}
@@ -52,7 +52,7 @@ module _ (p q : Packet) {maps maps₂ : Bool} {one two refusal : ℕ}
   of_both = r ∙ either p q (refused_for p m e) (refused_for q n f)
 
   taken : refusal ≡ 0 → Accepted p × Accepted q
-  taken z = both-taken p q of_both z
+  taken z = both_taken p q of_both z
 
 pub returns-then-refusal-ne0 : goal.returns-then-refusal-ne0
 returns-then-refusal-ne0 c =
@@ -153,7 +153,7 @@ returns c =
     c.refusal_of_both-refusal.ensures in
     let l = c.end_told.ensures in
     let r = c.end_told-2.ensures in
-    all-answered p q is c.if-refusal-ne0.false
+    all_answered p q is c.if-refusal-ne0.false
     (answered_both p q _ (begun p c.begin-first.ensures) (begun q c.begin-second.ensures) c.asked-asked.ensures
     c.play_both-both.ensures
     l.0.of_head l.1.of_reads l.1.of_writes l.1.of_made

@@ -18,9 +18,9 @@ module _ (p : Packet) {refusal : ℕ} (is : refusal ≡ refusal_of p) where
     taken : Accepted p
     taken = accepted p (sym is ∙ z)
 
-    all-answered : {left : Packet} → left ≡ played_on p → answer 0 left ≡ played_of p
+    all_answered : {left : Packet} → left ≡ played_on p → answer 0 left ≡ played_of p
     unfolding played_of
-    all-answered e = rw (e, ← is, eq-eqb _ _ z)
+    all_answered e = rw (e, ← is, eq-eqb _ _ z)
 
 pub returns-then-refusal-ne0 : goal.returns-then-refusal-ne0
 returns-then-refusal-ne0 c =
@@ -67,6 +67,6 @@ returns c =
     let a = c.args in
     let p = packet_of a.head.now a.chip.now a.memory.now a.reads.now a.writes.now a.fetched.now a.made.now in
     let left = c.end.ensures in
-    all-answered p (refused_for p c.are_maps-maps.ensures c.refusal_of-refusal.ensures) c.if-refusal-ne0.false
+    all_answered p (refused_for p c.are_maps-maps.ensures c.refusal_of-refusal.ensures) c.if-refusal-ne0.false
     (answered p _ (begun p c.begin-player.ensures) c.asked-asked.ensures c.play-played.ensures
     (ended _ left.0 left.1.of_reads left.1.of_writes left.1.of_made))
