@@ -1,12 +1,12 @@
 /* The SPC700 for C and C++: one step, a run, a wake, a count of marks, what differs between two memories, blanked images, one
  * instruction's text, SPC files and state records.
  *
- * The functions are those of the proved crate `exports`. `rt staticlib exports` writes them to target/staticlib/libexports.a, for
+ * The functions are those of the proved crate `exports`. `tools/build exports` writes them to target/staticlib/libexports.a, for
  * programs on x86-64 Linux:
  *
  *     cc -I include program.c target/staticlib/libexports.a
  *
- * Of other libraries they use C's memcpy alone. They allocate nothing and keep nothing between two calls.
+ * Of other libraries they use C's memcpy, memmove and memset alone. They allocate nothing and keep nothing between two calls.
  *
  * What a call is lent. Every region is two arguments: a pointer to its first element, then how many elements it has. They are bytes; only
  * the counts of spc700_counts are 32-bit numbers, and the row of spc700_differences has 16-bit numbers.

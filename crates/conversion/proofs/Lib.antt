@@ -1,2 +1,2 @@
 pub mod Visits
-pub mod Theorems
+pub mod BothWays

@@ -1,3 +1,4 @@
 pub mod Unnamed
 pub mod Calls
 pub mod Defaults
+pub mod Theorems

@@ -1,6 +1,6 @@
 // The library that other programs link: C's view of the engine and of a wake, the count of marks, the differences between two memories,
-// blanked images, the listing, SPC files and state records, which include/spc700.h documents. Every call takes its slices as pointer and
-// length, has no condition, and answers one number.
+// blanked images, the listing, SPC files and state records, which include/spc700.h documents. Every call has no condition, and answers one
+// number. Crate exports_c gives C these calls, where a slice is a pointer and a length.
 #![tactic(auto)]
 
 ghost use Rattle.std.specs.Prelude.{◌≡◌, length};

@@ -87,8 +87,8 @@ module _ (map : List ℕ) where
           unmarked = sym (differ_as_marked map n all gap.address inside) ∙ rw (eq-eqb _ _ gap.equal);
         }
 
-    not-many : length (marked_stretches map) ≤ 32768
-    not-many = rw (as_memories map n all) (few (zeros map n) (ones n))
+    not_many : length (marked_stretches map) ≤ 32768
+    not_many = rw (as_memories map n all) (few (zeros map n) (ones n))
 
   -- They are the maximal ones, from the first address on: differences/specs/Maximal says what that is;
   pub all_maximal : MaximalFrom (is_marked map) 0 (marked_stretches map)
@@ -114,7 +114,7 @@ module _ (map : List ℕ) where
 
   -- There are at most 32,768.
   pub at_most : length (marked_stretches map) ≤ 32768
-  at_most = not-many 65536 refl
+  at_most = not_many 65536 refl
 
 -- ---- what the bytes tell
 

@@ -34,11 +34,11 @@ module _ (map₀ aside₀ : List ℕ) (size : length map₀ ≡ 8192) (eight : l
     still : length map ≡ length map₀
     still = so.cleared.size
 
-    all-taken : 8 ≤ i → aside ≡ drop 8184 map₀
-    all-taken h = all_laid aside₀ _ so.taken (length_last 8184 8 map₀ size ∙ sym eight) (omega arith)
+    all_taken : 8 ≤ i → aside ≡ drop 8184 map₀
+    all_taken h = all_laid aside₀ _ so.taken (length_last 8184 8 map₀ size ∙ sym eight) (omega arith)
 
-    all-cleared : 8 ≤ i → map ≡ take 8184 map₀ ++ replicate 8 0
-    all-cleared h = all_put 8184 8 map₀ size (replicate 8 0) refl so.cleared h
+    all_cleared : 8 ≤ i → map ≡ take 8184 map₀ ++ replicate 8 0
+    all_cleared h = all_put 8184 8 map₀ size (replicate 8 0) refl so.cleared h
 
 pub loop-i-init : goal.loop-i-init
 loop-i-init c = search (rules, begun)
@@ -57,6 +57,6 @@ shape_of-map c = search (rules, still)
 
 pub returns : goal.returns
 returns c = (
-  all-taken _ _ c.requires refl c.loop-i.invariant c.loop-i-test.false,
-  all-cleared _ _ c.requires refl c.loop-i.invariant c.loop-i-test.false,
+  all_taken _ _ c.requires refl c.loop-i.invariant c.loop-i-test.false,
+  all_cleared _ _ c.requires refl c.loop-i.invariant c.loop-i-test.false,
 )
