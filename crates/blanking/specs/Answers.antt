@@ -44,9 +44,9 @@ module _ (number budget : ℕ) (cpu : Processor) where
   in_edition image z = rw (eq-eqb _ _ z) (sym (accepted_sized (edition_of number) budget cpu image (right_size image z)))
 
   module _ (image map : List ℕ) (byte : ℕ) where
-    as-refused : refusal_of number (world (blank_of map byte image).left clear clear) ≡ refusal_of number (world image clear clear)
+    as_refused : refusal_of number (world (blank_of map byte image).left clear clear) ≡ refusal_of number (world image clear clear)
     unfolding refusal_of
-    as-refused = rw (same_length map byte image)
+    as_refused = rw (same_length map byte image)
 
     -- Blanked by a map that has at least the marks of the read map which the run left, the image gives the same.
     pub same_answer : Keeps (answer_to image).left.reads map
@@ -57,6 +57,6 @@ module _ (number budget : ℕ) (cpu : Processor) where
             → Same image (blank_of map byte image).left (answer_to image) (answer_to (blank_of map byte image).left)
         go (yes z) =
             let is = in_edition image z in
-            rw (is, in_edition (blank_of map byte image).left (as-refused ∙ z))
+            rw (is, in_edition (blank_of map byte image).left (as_refused ∙ z))
             (same_run_with_more (edition_of number) budget cpu image (right_size image z) byte map (rw is at more))
-        go (no n) = rw (as-refused, ne_eqb _ _ n) (both_refused image (blank_of map byte image).left _)
+        go (no n) = rw (as_refused, ne_eqb _ _ n) (both_refused image (blank_of map byte image).left _)

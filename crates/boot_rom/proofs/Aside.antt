@@ -28,8 +28,8 @@ module _ {R : Type 0} (p : Access R) (from n : ℕ) (ends : 8192 ≡ from + n) (
   abbrev none : List ℕ
   none = replicate n 0
 
-  none-long : length none ≡ n
-  none-long = length-replicate {A = ℕ} n 0
+  none_long : length none ≡ n
+  none_long = length-replicate {A = ℕ} n 0
 
   reads_end : length w.reads ≡ from + n
   reads_end = size.reads ∙ ends
@@ -44,15 +44,15 @@ module _ {R : Type 0} (p : Access R) (from n : ℕ) (ends : 8192 ≡ from + n) (
   pub bare_sized : Sized bare
   bare_sized = record {
     memory = size.memory;
-    reads = length_put from n w.reads reads_end none none-long ∙ size.reads;
-    writes = length_put from n w.writes writes_end none none-long ∙ size.writes;
+    reads = length_put from n w.reads reads_end none none_long ∙ size.reads;
+    writes = length_put from n w.writes writes_end none none_long ∙ size.writes;
   }
 
   abbrev after : World
   after = (perform p bare).left
 
-  after-sized : Sized after
-  after-sized = (marks_stay p bare bare_sized).sized
+  after_sized : Sized after
+  after_sized = (marks_stay p bare bare_sized).sized
 
   -- ---- byte by byte
 
@@ -60,15 +60,15 @@ module _ {R : Type 0} (p : Access R) (from n : ℕ) (ends : 8192 ≡ from + n) (
   no_marks i h =
       let zero = get_or-replicate {A = ℕ} n i 0 0 h in
       ap₂ both
-      (get_inside from n w.reads reads_end none none-long i ∙ zero)
-      (get_inside from n w.writes writes_end none none-long i ∙ zero)
+      (get_inside from n w.reads reads_end none none_long i ∙ zero)
+      (get_inside from n w.writes writes_end none none_long i ∙ zero)
 
   elsewhere : (i : ℕ) → i < from → byte_of i after ≡ byte_of i (perform p w).left
   elsewhere i h =
       same_byte p i (omega arith) bare w bare_sized size refl
       (ap₂ both
-      (get_before from n w.reads reads_end none none-long i h)
-      (get_before from n w.writes writes_end none none-long i h))
+      (get_before from n w.reads reads_end none none_long i h)
+      (get_before from n w.writes writes_end none none_long i h))
 
   inside : (i : ℕ) → i < n → byte_of (from + i) (perform p w).left ≡ over (byte_of (from + i) w) (byte_of (from + i) after)
   inside i h = put_over p (from + i) (omega arith) bare w bare_sized size refl (no_marks i h) (bytes (from + i))
@@ -77,12 +77,12 @@ module _ {R : Type 0} (p : Access R) (from n : ℕ) (ends : 8192 ≡ from + n) (
 
   pub reads_back : put after.reads (read_back (own after.reads) (own w.reads) (own w.writes)) ≡ (perform p w).left.reads
   reads_back =
-      let end = after-sized.reads ∙ ends in
+      let end = after_sized.reads ∙ ends in
       let since = length_last from n after.reads end in
       let read = length_last from n w.reads reads_end in
       let stored = length_last from n w.writes writes_end in
       only_put from n after.reads end (read_back (own after.reads) (own w.reads) (own w.writes)) (rw length_back since)
-      (perform p w).left.reads ((marks_stay p w size).sized.reads ∙ sym after-sized.reads)
+      (perform p w).left.reads ((marks_stay p w size).sized.reads ∙ sym after_sized.reads)
       (λ i h. ap (λ (b : Both). b.read) (elsewhere i h))
       (λ i h.
       get_back (own after.reads) (own w.reads) (own w.writes) i (since ∙ sym read) (since ∙ sym stored) (omega arith)
@@ -90,12 +90,12 @@ module _ {R : Type 0} (p : Access R) (from n : ℕ) (ends : 8192 ≡ from + n) (
 
   pub writes_back : put after.writes (together (own w.writes) (own after.writes)) ≡ (perform p w).left.writes
   writes_back =
-      let end = after-sized.writes ∙ ends in
+      let end = after_sized.writes ∙ ends in
       let since = length_last from n after.writes end in
       let stored = length_last from n w.writes writes_end in
       only_put from n after.writes end (together (own w.writes) (own after.writes))
       (length_together (own w.writes) (own after.writes) (stored ∙ sym since) ∙ stored)
-      (perform p w).left.writes ((marks_stay p w size).sized.writes ∙ sym after-sized.writes)
+      (perform p w).left.writes ((marks_stay p w size).sized.writes ∙ sym after_sized.writes)
       (λ i h. ap (λ (b : Both). b.stored) (elsewhere i h))
       (λ i h.
       get_together (own w.writes) (own after.writes) i
@@ -106,10 +106,10 @@ module _ {R : Type 0} (p : Access R) (from n : ℕ) (ends : 8192 ≡ from + n) (
   pub marked_alone : (m : ℕ) → m ≡ 8192
       → own after.reads ≡ own (perform p (world w.memory (replicate m 0) (replicate m 0))).left.reads
   marked_alone m e =
-      let long = length_last from n after.reads (after-sized.reads ∙ ends) in
+      let long = length_last from n after.reads (after_sized.reads ∙ ends) in
       let as_long = length_last from n (perform p cleared).left.reads ((marks_stay p cleared sized).sized.reads ∙ ends) in
       ext_get_or 0 (own after.reads) (own (perform p cleared).left.reads) (long ∙ sym as_long)
-      (λ i h. simp get_or-drop (as-cleared i (omega arith)))
+      (λ i h. simp get_or-drop (as_cleared i (omega arith)))
     where
       cleared : World
       cleared = world w.memory (replicate m 0) (replicate m 0)
@@ -117,8 +117,8 @@ module _ {R : Type 0} (p : Access R) (from n : ℕ) (ends : 8192 ≡ from + n) (
       sized : Sized cleared
       sized = let long = length-replicate {A = ℕ} m 0 ∙ e in record { memory = size.memory; reads = long; writes = long }
 
-      as-cleared : (i : ℕ) → i < n → (byte_of (from + i) after).read ≡ (byte_of (from + i) (perform p cleared).left).read
-      as-cleared i h =
+      as_cleared : (i : ℕ) → i < n → (byte_of (from + i) after).read ≡ (byte_of (from + i) (perform p cleared).left).read
+      as_cleared i h =
           let zero = get_or-replicate {A = ℕ} m (from + i) 0 0 (omega arith) in
           ap (λ (b : Both). b.read)
           (same_byte p (from + i) (omega arith) bare cleared bare_sized sized refl (no_marks i h ∙ sym (ap₂ both zero zero)))

@@ -13,8 +13,8 @@ module _ (from n : ℕ) (map : List ℕ) (ends : length map ≡ from + n) where
   pub length_last : length (drop from map) ≡ n
   length_last = rw length-drop (omega arith)
 
-  length-first : length (take from map) ≡ from
-  length-first = length-take-le from map (omega arith)
+  length_first : length (take from map) ≡ from
+  length_first = length-take-le from map (omega arith)
 
   module _ (part : List ℕ) (fits : length part ≡ n) where
     -- the map with others in their place
@@ -22,13 +22,13 @@ module _ (from n : ℕ) (map : List ℕ) (ends : length map ≡ from + n) where
     put = take from map ++ part
 
     pub length_put : length put ≡ length map
-    length_put = rw length-append (omega (arith, length-first))
+    length_put = rw length-append (omega (arith, length_first))
 
     pub get_before : (i : ℕ) → i < from → get_or put i 0 ≡ get_or map i 0
-    get_before i h = get_or-append (take from map) part 0 i (omega (arith, length-first)) ∙ get_or-take from map i 0 h
+    get_before i h = get_or-append (take from map) part 0 i (omega (arith, length_first)) ∙ get_or-take from map i 0 h
 
     pub get_inside : (i : ℕ) → get_or put (from + i) 0 ≡ get_or part i 0
-    get_inside i = rw length-first at (get_or-append-add (take from map) part i 0)
+    get_inside i = rw length_first at (get_or-append-add (take from map) part i 0)
 
     -- A map that has them there, and else the same bytes, is it.
     pub only_put : (other : List ℕ) → length other ≡ length map → ((i : ℕ) → i < from → get_or map i 0 ≡ get_or other i 0)

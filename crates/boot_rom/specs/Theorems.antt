@@ -81,15 +81,15 @@ module _ (edition : Edition) (cpu : Processor) (w : World) (size : Sized w) (byt
   abbrev map : List ℕ
   map = (alone edition cpu w.memory).left.reads
 
-  map-size : length map ≡ 8192
-  map-size = (step_keeps edition cpu _ (fresh w.memory 8192 size.memory refl).sized).sized.reads
+  map_size : length map ≡ 8192
+  map_size = (step_keeps edition cpu _ (fresh w.memory 8192 size.memory refl).sized).sized.reads
 
   told : reads_rom edition cpu w.memory ≡ true → ReadsThere (events (counted_step edition cpu) w)
   told e =
       let bytes_of = alone_bytes edition cpu w size in
       let m = some_mark (drop 8184 map) e in
       let i = 8184 + m.place in
-      let few : m.place < 8 = omega (arith, m.within, length-drop 8184 map, map-size) in
+      let few : m.place < 8 = omega (arith, m.within, length-drop 8184 map, map_size) in
       let byte = get_or map i 0 in
       let other : byte ≡ 0 → ⊥ = λ z. m.there (get_or-drop 8184 map m.place 0 ∙ z) in
       let last = top_below byte (bytes_of i) in

@@ -127,8 +127,8 @@ module _ (cells : List ℕ) (a : ℕ) (laid : length cells ≡ 65536) (h : a < 6
       })
 
   -- A first touch sets the read mark.
-  first-touch : get_or cells a 0 / 256 % 4 ≡ 0 → world_of (set cells a (get_or cells a 0 + 256)) ≡ seen a (world_of cells)
-  first-touch clear =
+  first_touch : get_or cells a 0 / 256 % 4 ≡ 0 → world_of (set cells a (get_or cells a 0 + 256)) ≡ seen a (world_of cells)
+  first_touch clear =
       let cell = get_or cells a 0 in
       touched (cell + 256)
       (record {
@@ -138,8 +138,8 @@ module _ (cells : List ℕ) (a : ℕ) (laid : length cells ≡ 65536) (h : a < 6
       })
 
   -- A later read changes nothing.
-  later-touch : get_or cells a 0 / 256 % 4 ≢ 0 → world_of cells ≡ seen a (world_of cells)
-  later-touch some = rw set-get_or at (touched (get_or cells a 0) (touched_already (get_or cells a 0) some))
+  later_touch : get_or cells a 0 / 256 % 4 ≢ 0 → world_of cells ≡ seen a (world_of cells)
+  later_touch some = rw set-get_or at (touched (get_or cells a 0) (touched_already (get_or cells a 0) some))
 
   -- A store puts its byte in the place of the old one, sets the stored mark and leaves the read mark.
   stored_there : (byte : ℕ) → byte < 256
@@ -174,16 +174,16 @@ module _ (cells : List ℕ) (a : ℕ) (laid : length cells ≡ 65536) (h : a < 6
       })
 
   -- So these are what performing a read, or a store, does.
-  does-read : {left : World} → left ≡ seen a (world_of cells) → Does (ask a) (world_of cells) (outcome (get_or cells a 0 % 256) left)
+  does_read : {left : World} → left ≡ seen a (world_of cells) → Does (ask a) (world_of cells) (outcome (get_or cells a 0 % 256) left)
   unfolding perform
-  does-read e = record { is = rw (e, (holds cells a h).byte) }
+  does_read e = record { is = rw (e, (holds cells a h).byte) }
 
   pub first_read : get_or cells a 0 / 256 % 4 ≡ 0
       → Does (ask a) (world_of cells) (outcome (get_or cells a 0 % 256) (world_of (set cells a (get_or cells a 0 + 256))))
-  first_read clear = does-read (first-touch clear)
+  first_read clear = does_read (first_touch clear)
 
   pub later_read : get_or cells a 0 / 256 % 4 ≢ 0 → Does (ask a) (world_of cells) (outcome (get_or cells a 0 % 256) (world_of cells))
-  later_read some = does-read (later-touch some)
+  later_read some = does_read (later_touch some)
 
   pub one_store : (byte : ℕ) → byte < 256
       → Does (put a byte) (world_of cells) (outcome tt (world_of (set cells a (get_or cells a 0 / 256 % 2 * 256 + 512 + byte))))

@@ -55,18 +55,18 @@ same_map m n s t p q e = ext_get_or 0 m n (s ∙ sym t) (λ i h. same_number 8 _
 -- Eight numbers below 2 that are put together as one byte are that byte's bits.
 module _ (m : ℕ → ℕ) (a : ℕ) (m0 : m a < 2) (m1 : m (a + 1) < 2) (m2 : m (a + 2) < 2) (m3 : m (a + 3) < 2) (m4 : m (a + 4) < 2)
     (m5 : m (a + 5) < 2) (m6 : m (a + 6) < 2) (m7 : m (a + 7) < 2) where
-  bit-of-eight : (j : ℕ) → j < 8
+  bit_of_eight : (j : ℕ) → j < 8
       → (m a + m (a + 1) * 2 + m (a + 2) * 4 + m (a + 3) * 8 + (m (a + 4) + m (a + 5) * 2 + m (a + 6) * 4 + m (a + 7) * 8) * 16) / 2 ^ j % 2
       ≡ m (a + j)
-  bit-of-eight zero h = rw add-zero (omega arith)
-  bit-of-eight (suc zero) h = omega arith
-  bit-of-eight (suc (suc zero)) h = omega arith
-  bit-of-eight (suc (suc (suc zero))) h = omega arith
-  bit-of-eight (suc (suc (suc (suc zero)))) h = omega arith
-  bit-of-eight (suc (suc (suc (suc (suc zero))))) h = omega arith
-  bit-of-eight (suc (suc (suc (suc (suc (suc zero)))))) h = omega arith
-  bit-of-eight (suc (suc (suc (suc (suc (suc (suc zero))))))) h = omega arith
-  bit-of-eight (suc (suc (suc (suc (suc (suc (suc (suc j)))))))) h = absurd (omega arith)
+  bit_of_eight zero h = rw add-zero (omega arith)
+  bit_of_eight (suc zero) h = omega arith
+  bit_of_eight (suc (suc zero)) h = omega arith
+  bit_of_eight (suc (suc (suc zero))) h = omega arith
+  bit_of_eight (suc (suc (suc (suc zero)))) h = omega arith
+  bit_of_eight (suc (suc (suc (suc (suc zero))))) h = omega arith
+  bit_of_eight (suc (suc (suc (suc (suc (suc zero)))))) h = omega arith
+  bit_of_eight (suc (suc (suc (suc (suc (suc (suc zero))))))) h = omega arith
+  bit_of_eight (suc (suc (suc (suc (suc (suc (suc (suc j)))))))) h = absurd (omega arith)
 
 module _ (bit : ℕ) (cells : List ℕ) where
   -- The map marks an address where the cell has the bit.
@@ -75,7 +75,7 @@ module _ (bit : ℕ) (cells : List ℕ) where
       let whole : k / 8 * 8 + k % 8 ≡ k = omega arith in
       let small : (i : ℕ) → mark_of bit cells i < 2 = λ i. omega arith in
       let mark =
-      bit-of-eight (mark_of bit cells) (k / 8 * 8) (small _) (small _) (small _) (small _) (small _) (small _) (small _) (small _) (k % 8)
+      bit_of_eight (mark_of bit cells) (k / 8 * 8) (small _) (small _) (small _) (small _) (small _) (small _) (small _) (small _) (k % 8)
       (omega arith) in
       rw (value_at 8192 0 (eight_of bit cells) (k / 8) (omega arith), zero-add, mark, whole)
 

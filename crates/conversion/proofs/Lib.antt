@@ -1,1 +1,2 @@
 pub mod Visits
+pub mod BothWays

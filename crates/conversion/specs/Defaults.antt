@@ -112,12 +112,12 @@ module _ (file : List ℕ) where
   keeps has =
       ext_get_or 0 (with_defaults file) file (length_defaults 0 file) (λ i h. at_each i (omega (arith, length_defaults 0 file)))
     where
-      as-it-is : {byte : ℕ} (p : Place) → ((default : ℕ) → p ≡ unnamed default → byte ≡ default) → or_default p byte ≡ byte
-      as-it-is named f = refl
-      as-it-is (unnamed default) f = sym (f default refl)
+      as_it_is : {byte : ℕ} (p : Place) → ((default : ℕ) → p ≡ unnamed default → byte ≡ default) → or_default p byte ≡ byte
+      as_it_is named f = refl
+      as_it_is (unnamed default) f = sym (f default refl)
 
       at_each : (i : ℕ) → i < length file → get_or (with_defaults file) i 0 ≡ get_or file i 0
-      at_each i h = in_place file i h ∙ as-it-is (place_at i) (λ default e. has i default h e)
+      at_each i h = in_place file i h ∙ as_it_is (place_at i) (λ default e. has i default h e)
 
   -- and no other file is.
   pub kept : with_defaults file ≡ file → EachDefault file

@@ -1,26 +1,20 @@
 -- What holds of the two ways between state records and SPC files: which bytes are unnamed, what is accepted, and that nothing is lost.
 -- The one hypothesis is that files and records hold bytes, which the code's types give.
 -- Assumes nothing.
-use Rattle.std.specs.Prelude.{ℕ, ◌<◌, ◌≤◌, Bool, true, false, ◌≡◌, length, get_or, take, replicate}
-use Rattle.std.proofs.Common.{true≢false, sym, subst, ◌∙◌, ⊎_elim, inl, inr, arith, lit≤, length-append, length-drop, length-take-le, take_at, drop_at, get_or-take}
+use Rattle.std.specs.Prelude.{ℕ, ◌<◌, ◌≤◌, Bool, true, false, ◌≡◌, length, get_or, replicate}
+use Rattle.std.proofs.Common.{true≢false, sym, ◌∙◌, ⊎_elim, inl, inr, arith, length-append, take_at, get_or-take}
 use Rattle.std.proofs.Math.Path.{refl, ap}
 use mathlib.Core.List.{List, ◌++◌, List-discrete}
 use Rattle.std.proofs.Math.Decide.{ℕ_discrete, dec_le}
-use Rattle.std.proofs.Math.ListN.{drop, take-append-drop, get_or-eq_default}
 use Rattle.std.proofs.lemmas.List.{length-replicate}
 use borrow.Author.Tests.{eq-eqb, ne_eqb}
-use Rattle.laws.specs.Bytes.{Bytes}
-use Rattle.laws.specs.Filled.{Filled, filled}
 use Rattle.processor.specs.declared.Processor.{Processor}
-use Rattle.state.specs.Registers.{registers_of, bytes_of}
-use Rattle.state.specs.Theorems.{record_to_bytes_and_back, bytes_to_record_and_back}
-use Rattle.spc_file.specs.Layout.{signature, record_in, memory_in, laid}
+use Rattle.spc_file.specs.Layout.{signature, laid}
 use Rattle.spc_file.specs.Calls.{refusal_of}
-use Rattle.spc_file.specs.Refused.{not_refused, answers}
-use Rattle.spc_file.specs.Theorems.{Accepted, accepts, accepted, memory_size, Stored}
-use Rattle.spc_file.specs.Theorems.{laid_elsewhere, laid_length, laid_alike, same_file, still_accepted, same_registers, same_memory}
+use Rattle.spc_file.specs.Theorems.{Accepted, accepts, accepted, Stored}
+use Rattle.spc_file.specs.Theorems.{laid_elsewhere, laid_length, laid_alike, still_accepted}
 use Rattle.conversion.specs.Unnamed.{unnamed, place_at, Unnamed, with_defaults, all_default, EachDefault}
-use Rattle.conversion.specs.Calls.{to_file_refusal, new_file, file_of, file_from_record, to_record_refusal, record_of, record_from_file}
+use Rattle.conversion.specs.Calls.{to_file_refusal, new_file, to_record_refusal}
 use Rattle.conversion.specs.Defaults.{each_stretch, not_both, unnamed_at, length_defaults}
 use Rattle.conversion.specs.Defaults.{keeps, kept, yes_all, not_all, has_them, begins_as_before}
 
@@ -56,8 +50,8 @@ module _ (file : List ℕ) where
       go (yes d) = kept file d
       go (no n) = absurd (true≢false (sym e ∙ not_all file n))
 
-  not-each : (EachDefault file → ⊥) → all_default file ≡ false
-  not-each n = not_all file (λ e. n (kept file e))
+  not_each : (EachDefault file → ⊥) → all_default file ≡ false
+  not_each n = not_all file (λ e. n (kept file e))
 
 -- ---- files that hold nothing but a state record
 
@@ -139,7 +133,7 @@ module _ (file state : List ℕ) (size : length state ≡ 65543) where
   -- and is refused with 10 if not;
   pub refuses_file : Accepted file → (EachDefault file → ⊥) → to_record_refusal file state ≡ 10
   unfolding to_record_refusal
-  refuses_file a n = rw (eq-eqb _ _ size, eq-eqb _ _ (accepts a), not-each file n)
+  refuses_file a n = rw (eq-eqb _ _ size, eq-eqb _ _ (accepts a), not_each file n)
 
 -- accepted, it is such a file, and the lent record has its length.
 pub took_file : (file state : List ℕ) → to_record_refusal file state ≡ 0 → (length state ≡ 65543) × Plain file
@@ -151,78 +145,3 @@ took_file file state e = go (ℕ_discrete (length state) 65543) (ℕ_discrete (r
     go (yes r) (yes z) false d = absurd (omega (arith, rw (eq-eqb _ _ r, eq-eqb _ _ z, d) at e))
     go (yes r) (no n) all d = absurd (n (rw (eq-eqb _ _ r, ne_eqb _ _ n) at e))
     go (no n) z all d = absurd (omega (arith, rw (ne_eqb _ _ n) at e))
-
--- ---- both ways round
-
-module _ (state : List ℕ) (size : length state ≡ 65543) where
-  behind-seven : length (drop 7 state) ≡ 65536
-  behind-seven = rw length-drop (omega arith)
-
-  -- The file of a record holds nothing but the record,
-  pub file_plain : Plain (file_of state)
-  file_plain = plain_still new_plain (registers_of (take 7 state)) (drop 7 state) behind-seven
-
-  seven-small : Bytes state → Bytes (take 7 state)
-  seven-small bytes at = go (dec_le 7 at)
-    where
-      go : Dec (7 ≤ at) → get_or (take 7 state) at 0 < 256
-      go (yes far) = rw (get_or-eq_default (take 7 state) 0 {n = at} (rw (length-take-le 7 state (omega arith)) far)) (lit≤ tt)
-      go (no near) = rw (get_or-take 7 state at 0 (omega arith)) (bytes at)
-
-  -- and the record of that file is the record.
-  pub record_again : Bytes state → record_of (file_of state) ≡ state
-  unfolding registers_of
-  record_again bytes =
-      let cpu = registers_of (take 7 state) in
-      let seven = bytes_to_record_and_back (take 7 state) (seven-small bytes) (length-take-le 7 state (omega arith)) in
-      ap (λ (c : Processor). bytes_of c ++ memory_in (file_of state))
-      (same_registers cpu (drop 7 state) new_file new_plain.accepted behind-seven)
-      ∙ ap (λ (m : List ℕ). bytes_of cpu ++ m) (same_memory cpu (drop 7 state) new_file new_plain.accepted behind-seven)
-      ∙ ap (λ (l : List ℕ). l ++ drop 7 state) seven
-      ∙ take-append-drop 7 state
-
-module _ (file : List ℕ) where
-  seven-bytes : length (bytes_of (record_in file)) ≡ 7
-  unfolding bytes_of
-  seven-bytes = refl
-
-  pub record_size : Accepted file → length (record_of file) ≡ 65543
-  record_size a = omega (arith, length-append (bytes_of (record_in file)) (memory_in file), seven-bytes, memory_size a)
-
-  -- The file of such a file's record is the file.
-  pub file_again : Bytes file → Plain file → file_of (record_of file) ≡ file
-  unfolding record_in
-  file_again bytes p =
-      let cpu = record_in file in
-      let memory = memory_in file in
-      ap (λ (l : List ℕ). laid (registers_of l) (drop 7 (record_of file)) new_file) (take_at (bytes_of cpu) memory 7 seven-bytes)
-      ∙ ap (λ (m : List ℕ). laid (registers_of (bytes_of cpu)) m new_file) (drop_at (bytes_of cpu) memory 7 seven-bytes)
-      ∙ ap (λ (c : Processor). laid c memory new_file) (record_to_bytes_and_back cpu)
-      ∙ plain_alike new_plain p cpu memory (memory_size p.accepted)
-      ∙ same_file file bytes p.accepted
-
-  -- Of no other file it is: what stands in its unnamed bytes would be lost.
-  pub only_then : Accepted file → file_of (record_of file) ≡ file → EachDefault file
-  only_then a e = (subst (λ (f : List ℕ). Plain f) e (file_plain (record_of file) (record_size a))).defaults
-
--- A record that went into a file comes back, into whatever record is lent.
-pub record_to_file_and_back : (state file into : List ℕ) → Bytes state → (file_from_record state file).answer ≡ 0 → length into ≡ 65543
-    → record_from_file (file_from_record state file).left into ≡ filled 0 state
-record_to_file_and_back state file into bytes e size =
-    let z = sym (answers (to_file_refusal state file) (file_of state) file) ∙ e in
-    let whole = (took_record state file z).0 in
-    let accepted = takes_file (file_of state) into size (file_plain state whole) in
-    ap (λ (f : Filled ℕ). record_from_file f.left into) (not_refused (to_file_refusal state file) (file_of state) file z)
-    ∙ not_refused (to_record_refusal (file_of state) into) (record_of (file_of state)) into accepted
-    ∙ ap (λ (l : List ℕ). filled 0 l) (record_again state whole bytes)
-
--- A file that went into a record comes back, into whatever file is lent.
-pub file_to_record_and_back : (file state into : List ℕ) → Bytes file → (record_from_file file state).answer ≡ 0 → length into ≡ 66048
-    → file_from_record (record_from_file file state).left into ≡ filled 0 file
-file_to_record_and_back file state into bytes e size =
-    let z = sym (answers (to_record_refusal file state) (record_of file) state) ∙ e in
-    let plain = (took_file file state z).1 in
-    let accepted = takes_record (record_of file) into (record_size file plain.accepted) size in
-    ap (λ (f : Filled ℕ). file_from_record f.left into) (not_refused (to_record_refusal file state) (record_of file) state z)
-    ∙ not_refused (to_file_refusal (record_of file) into) (file_of (record_of file)) into accepted
-    ∙ ap (λ (l : List ℕ). filled 0 l) (file_again file bytes plain)

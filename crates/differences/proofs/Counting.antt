@@ -46,9 +46,9 @@ module _ (first second : List ℕ) where
         unfolding touched
         in_parts = rw (one_found first second c.found h, end_behind first second c.found h)
 
-        one-counted : {more : Bool} {t : Span} → more ≡ so_far || touches_up_to mark s.first s.end
+        one_counted : {more : Bool} {t : Span} → more ≡ so_far || touches_up_to mark s.first s.end
             → Found first second s.end t → Counting mark (stretches + 1) more t
-        one-counted e f =
+        one_counted e f =
             let together = or_assoc so_far (touches_up_to mark s.first s.end) (touched mark (rest first second s.end)) in
             record {
               from = s.end;
@@ -60,8 +60,8 @@ module _ (first second : List ℕ) where
         -- Where something was touched before, it stays so; else the stretch decides.
         pub touched_before : {more : Bool} {t : Span} → so_far ≡ true → more ≡ so_far → Found first second s.end t
             → Counting mark (stretches + 1) more t
-        touched_before b e f = one-counted (rw b (e ∙ b)) f
+        touched_before b e f = one_counted (rw b (e ∙ b)) f
 
         pub touched_now : {more now : Bool} {t : Span} → so_far ≡ false → now ≡ touches_up_to mark s.first s.end → more ≡ now
             → Found first second s.end t → Counting mark (stretches + 1) more t
-        touched_now b n e f = one-counted (rw b (e ∙ n)) f
+        touched_now b n e f = one_counted (rw b (e ∙ n)) f

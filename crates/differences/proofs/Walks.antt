@@ -46,11 +46,11 @@ module _ (first second : List ℕ) where
       → Found first second from (record { first = at; end = end })
   leave {from} {at} {end} w e = record {
     next = record { before = w.before; throughout = w.throughout; behind = e };
-    some = λ h. settled (dec_lt at end) (λ n. absurd (not-empty h n));
+    some = λ h. settled (dec_lt at end) (λ n. absurd (not_empty h n));
   }
     where
-      not-empty : at < 65536 → (at < end → ⊥) → ⊥
-      not-empty h n =
+      not_empty : at < 65536 → (at < end → ⊥) → ⊥
+      not_empty h n =
           let same : end ≡ at = omega (arith, w.throughout.ahead) in
           both_answers (w.there h) (rw same at (e (omega arith)))
 

@@ -45,8 +45,8 @@ module _ {test : ℕ → Bool} {answer : Bool} where
       go k a b (no q) = let there : k ≡ to = omega arith in rw there e
 
   -- one more in front
-  one-before : {from to : ℕ} → Throughout test answer (suc from) to → test from ≡ answer → Throughout test answer from to
-  one-before {from} {to} t e = record { ahead = omega (arith, t.ahead); within = t.within; each = λ k a b. go k a b (dec_lt from k) }
+  one_before : {from to : ℕ} → Throughout test answer (suc from) to → test from ≡ answer → Throughout test answer from to
+  one_before {from} {to} t e = record { ahead = omega (arith, t.ahead); within = t.within; each = λ k a b. go k a b (dec_lt from k) }
     where
       go : (k : ℕ) → from ≤ k → k < to → Dec (from < k) → test k ≡ answer
       go k a b (yes q) = t.each k (omega arith) b
@@ -72,10 +72,10 @@ module _ (test : ℕ → Bool) where
   -- ---- the defined list is so
 
   passed_by : {at : ℕ} (stretches : List Stretch) → test at ≡ false → MaximalFrom test (suc at) stretches → MaximalFrom test at stretches
-  passed_by [] e m = one-before m e
+  passed_by [] e m = one_before m e
   passed_by (s ∷ rest) e m =
       let next = m.1 in
-      (m.0, record { before = one-before next.before e; throughout = next.throughout; behind = next.behind }, m.2)
+      (m.0, record { before = one_before next.before e; throughout = next.throughout; behind = next.behind }, m.2)
 
   -- an address by itself, in front of an address that does not pass
   alone : {at : ℕ} (stretches : List Stretch) → at < 65536 → test at ≡ true → (suc at < 65536 → test (suc at) ≡ false)
@@ -102,7 +102,7 @@ module _ (test : ℕ → Bool) where
       joined q =
           let on : Throughout test true (suc at) (suc s.last) = rw q at next.throughout in
           let ahead : suc at ≤ s.last = rw q at m.0 in
-          (omega arith, record { before = no_address (omega arith); throughout = one-before on e; behind = next.behind }, m.2)
+          (omega arith, record { before = no_address (omega arith); throughout = one_before on e; behind = next.behind }, m.2)
 
       apart : suc at < s.first → MaximalFrom test at (stretch at at ∷ s ∷ rest)
       apart q = alone (s ∷ rest) h e (λ k. next.before.each (suc at) (omega arith) q) m
@@ -121,40 +121,40 @@ module _ (test : ℕ → Bool) where
       go false e m = passed_by behind e m
 
   -- where none passes no stretch begins; and of two next stretches neither begins nor ends before the other
-  none-there : {at : ℕ} {s : Stretch} → Throughout test false at 65536 → s.first ≤ s.last → Next test at s.first (suc s.last) → ⊥
-  none-there {at} {s} none some next =
+  none_there : {at : ℕ} {s : Stretch} → Throughout test false at 65536 → s.first ≤ s.last → Next test at s.first (suc s.last) → ⊥
+  none_there {at} {s} none some next =
       both_answers
       (next.throughout.each s.first (omega arith) (omega arith))
       (none.each s.first next.before.ahead (omega (arith, next.throughout.within)))
 
-  not-sooner : {at f e g d : ℕ} → Next test at f e → Next test at g d → f < e → f < g → ⊥
-  not-sooner {f = f} one other some h =
+  not_sooner : {at f e g d : ℕ} → Next test at f e → Next test at g d → f < e → f < g → ⊥
+  not_sooner {f = f} one other some h =
       both_answers (one.throughout.each f (omega arith) some) (other.before.each f one.before.ahead h)
 
-  not-shorter : {at f e d : ℕ} → Next test at f e → Next test at f d → f ≤ e → e < d → ⊥
-  not-shorter {e = e} one other some h =
+  not_shorter : {at f e d : ℕ} → Next test at f e → Next test at f d → f ≤ e → e < d → ⊥
+  not_shorter {e = e} one other some h =
       both_answers (other.throughout.each e some h) (one.behind (omega (arith, other.throughout.within)))
 
   -- and there is no other list of which that holds.
   pub only : (at : ℕ) (stretches others : List Stretch) → MaximalFrom test at stretches → MaximalFrom test at others → stretches ≡ others
   only at [] [] m o = refl
-  only at [] (t ∷ others) m o = absurd (none-there m o.0 o.1)
-  only at (s ∷ rest) [] m o = absurd (none-there o m.0 m.1)
+  only at [] (t ∷ others) m o = absurd (none_there m o.0 o.1)
+  only at (s ∷ rest) [] m o = absurd (none_there o m.0 m.1)
   only at (s ∷ rest) (t ∷ others) m o =
       let firsts = same_first (dec_lt s.first t.first) (dec_lt t.first s.first) in
-      let lasts = same-last (rw (← firsts) at o.1) (dec_lt s.last t.last) (dec_lt t.last s.last) in
+      let lasts = same_last (rw (← firsts) at o.1) (dec_lt s.last t.last) (dec_lt t.last s.last) in
       let rests = only (suc s.last) rest others m.2 (rw (← lasts) at o.2) in
       together firsts lasts rests
     where
       same_first : Dec (s.first < t.first) → Dec (t.first < s.first) → s.first ≡ t.first
-      same_first (yes h) e = absurd (not-sooner m.1 o.1 (omega (arith, m.0)) h)
-      same_first (no h) (yes k) = absurd (not-sooner o.1 m.1 (omega (arith, o.0)) k)
+      same_first (yes h) e = absurd (not_sooner m.1 o.1 (omega (arith, m.0)) h)
+      same_first (no h) (yes k) = absurd (not_sooner o.1 m.1 (omega (arith, o.0)) k)
       same_first (no h) (no k) = omega arith
 
-      same-last : Next test at s.first (suc t.last) → Dec (s.last < t.last) → Dec (t.last < s.last) → s.last ≡ t.last
-      same-last other (yes h) e = absurd (not-shorter m.1 other (omega (arith, m.0)) (omega arith))
-      same-last other (no h) (yes k) = absurd (not-shorter other m.1 other.throughout.ahead (omega arith))
-      same-last other (no h) (no k) = omega arith
+      same_last : Next test at s.first (suc t.last) → Dec (s.last < t.last) → Dec (t.last < s.last) → s.last ≡ t.last
+      same_last other (yes h) e = absurd (not_shorter m.1 other (omega (arith, m.0)) (omega arith))
+      same_last other (no h) (yes k) = absurd (not_shorter other m.1 other.throughout.ahead (omega arith))
+      same_last other (no h) (no k) = omega arith
 
       together : s.first ≡ t.first → s.last ≡ t.last → rest ≡ others → s ∷ rest ≡ t ∷ others
       together f l r =

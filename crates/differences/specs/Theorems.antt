@@ -43,12 +43,12 @@ nth stretches i = get_or stretches i (stretch 0 0)
 
 module _ (test : ℕ → Bool) where
   -- an address before all stretches lies in none
-  not-before : (at : ℕ) (stretches : List Stretch) → MaximalFrom test at stretches → (k : ℕ) → k < at → holding k stretches ≡ 0
+  not_before : (at : ℕ) (stretches : List Stretch) → MaximalFrom test at stretches → (k : ℕ) → k < at → holding k stretches ≡ 0
   unfolding holding
-  not-before at [] m k h = refl
-  not-before at (s ∷ rest) m k h =
+  not_before at [] m k h = refl
+  not_before at (s ∷ rest) m k h =
       let sooner : k < s.first = omega (arith, m.1.before.ahead) in
-      rw (lt-leb _ _ sooner, zero-add) (not-before (suc s.last) rest m.2 k (omega (arith, m.0)))
+      rw (lt-leb _ _ sooner, zero-add) (not_before (suc s.last) rest m.2 k (omega (arith, m.0)))
 
   held : (at : ℕ) (stretches : List Stretch) → MaximalFrom test at stretches → (k : ℕ) → at ≤ k → k < 65536
       → holding k stretches ≡ cond (test k) 1 0
@@ -59,10 +59,10 @@ module _ (test : ℕ → Bool) where
       go : Dec (k < s.first) → Dec (s.last < k) → (s.last < k → holding k rest ≡ cond (test k) 1 0)
           → cond (lies_in k s) 1 0 + holding k rest ≡ cond (test k) 1 0
       go (yes h) e later =
-          rw (lt-leb _ _ h, m.1.before.each k a h, zero-add) (not-before (suc s.last) rest m.2 k (omega (arith, m.0)))
+          rw (lt-leb _ _ h, m.1.before.each k a h, zero-add) (not_before (suc s.last) rest m.2 k (omega (arith, m.0)))
       go (no h) (yes e) later = rw (le-leb s.first k (omega arith), lt-leb _ _ e, zero-add) (later e)
       go (no h) (no e) later =
-          let none = not-before (suc s.last) rest m.2 k (omega arith) in
+          let none = not_before (suc s.last) rest m.2 k (omega arith) in
           let passes = m.1.throughout.each k (omega arith) (omega arith) in
           rw (le-leb s.first k (omega arith), le-leb k s.last (omega arith), none, passes)
 
@@ -100,15 +100,15 @@ module _ (test : ℕ → Bool) where
       not_there : {k : ℕ} → suc s.last ≤ k → test k ≡ true → test (suc s.last) ≡ false → (suc s.last < k → ⊥) → ⊥
       not_there {k} a t f n = let there : k ≡ suc s.last = omega arith in both_answers (rw there at t) f
 
-  few-from : (at : ℕ) (stretches : List Stretch) → MaximalFrom test at stretches → 2 * length stretches + at ≤ 65537
-  few-from at [] m = omega (arith, m.ahead)
-  few-from at (s ∷ []) m = omega (arith, m.0, m.1.before.ahead, m.1.throughout.within)
-  few-from at (s ∷ t ∷ rest) m =
+  few_from : (at : ℕ) (stretches : List Stretch) → MaximalFrom test at stretches → 2 * length stretches + at ≤ 65537
+  few_from at [] m = omega (arith, m.ahead)
+  few_from at (s ∷ []) m = omega (arith, m.0, m.1.before.ahead, m.1.throughout.within)
+  few_from at (s ∷ t ∷ rest) m =
       let gap = (apart at (s ∷ t ∷ rest) m 0 1 (omega arith) (omega arith)).0 in
       let next = m.2.1 in
       let later : MaximalFrom test (suc (suc s.last)) (t ∷ rest) =
       (m.2.0, record { before = not_first next.before gap; throughout = next.throughout; behind = next.behind }, m.2.2) in
-      omega (arith, m.0, m.1.before.ahead, few-from (suc (suc s.last)) (t ∷ rest) later)
+      omega (arith, m.0, m.1.before.ahead, few_from (suc (suc s.last)) (t ∷ rest) later)
 
 -- ---- marks
 
@@ -124,20 +124,20 @@ record MarkedIn (mark : ℕ → Bool) (from to : ℕ) : Type 0 where
   marked : mark address ≡ true
 
 module _ (mark : ℕ → Bool) where
-  none-marked : (n at : ℕ) → some_from mark at n ≡ false → (k : ℕ) → at ≤ k → k < at + n → mark k ≡ false
+  none_marked : (n at : ℕ) → some_from mark at n ≡ false → (k : ℕ) → at ≤ k → k < at + n → mark k ≡ false
   unfolding some_from
-  none-marked zero at h k a b = absurd (omega arith)
-  none-marked (suc n) at h k a b =
+  none_marked zero at h k a b = absurd (omega arith)
+  none_marked (suc n) at h k a b =
       let both = neither (mark at) h in
       elim (dec_lt at k) [
-        | yes q ↦ none-marked n (suc at) both.1 k q (omega arith)
+        | yes q ↦ none_marked n (suc at) both.1 k q (omega arith)
         | no q ↦ let there : k ≡ at = omega arith in rw there both.0
       ]
 
-  some-marked : (n at : ℕ) → some_from mark at n ≡ true → MarkedIn mark at (at + n)
+  some_marked : (n at : ℕ) → some_from mark at n ≡ true → MarkedIn mark at (at + n)
   unfolding some_from
-  some-marked zero at h = absurd (both_answers h refl)
-  some-marked (suc n) at h = go (mark at) refl h (λ later. some-marked n (suc at) later)
+  some_marked zero at h = absurd (both_answers h refl)
+  some_marked (suc n) at h = go (mark at) refl h (λ later. some_marked n (suc at) later)
     where
       go : (b : Bool) → mark at ≡ b → b || some_from mark (suc at) n ≡ true
           → (some_from mark (suc at) n ≡ true → MarkedIn mark (suc at) (suc at + n)) → MarkedIn mark at (at + suc n)
@@ -155,32 +155,32 @@ module _ (mark : ℕ → Bool) where
       passes : test address ≡ true
 
     -- where no stretch is touched, what is marked does not pass
-    not-touched : (at : ℕ) (stretches : List Stretch) → MaximalFrom test at stretches → touched mark stretches ≡ false
+    not_touched : (at : ℕ) (stretches : List Stretch) → MaximalFrom test at stretches → touched mark stretches ≡ false
         → (k : ℕ) → at ≤ k → k < 65536 → mark k ≡ true → test k ≡ false
     unfolding touched
-    not-touched at [] m t k a b e = m.each k a b
-    not-touched at (s ∷ rest) m t k a b e =
+    not_touched at [] m t k a b e = m.each k a b
+    not_touched at (s ∷ rest) m t k a b e =
         let both = neither (touches mark s) t in
-        go both.0 (dec_lt k s.first) (dec_lt s.last k) (λ h. not-touched (suc s.last) rest m.2 both.1 k h b e)
+        go both.0 (dec_lt k s.first) (dec_lt s.last k) (λ h. not_touched (suc s.last) rest m.2 both.1 k h b e)
       where
         go : touches mark s ≡ false → Dec (k < s.first) → Dec (s.last < k) → (s.last < k → test k ≡ false) → test k ≡ false
         go n (yes h) d later = m.1.before.each k a h
         go n (no h) (yes d) later = later d
         go n (no h) (no d) later =
-            absurd (both_answers e (none-marked (suc s.last - s.first) s.first n k (omega arith) (omega arith)))
+            absurd (both_answers e (none_marked (suc s.last - s.first) s.first n k (omega arith) (omega arith)))
 
     -- where one is, a marked address passes
-    touched-somewhere : (at : ℕ) (stretches : List Stretch) → MaximalFrom test at stretches → touched mark stretches ≡ true
+    touched_somewhere : (at : ℕ) (stretches : List Stretch) → MaximalFrom test at stretches → touched mark stretches ≡ true
         → Passing
     unfolding touched
-    touched-somewhere at [] m t = absurd (both_answers t refl)
-    touched-somewhere at (s ∷ rest) m t =
-        go (touches mark s) refl t (λ later. touched-somewhere (suc s.last) rest m.2 later)
+    touched_somewhere at [] m t = absurd (both_answers t refl)
+    touched_somewhere at (s ∷ rest) m t =
+        go (touches mark s) refl t (λ later. touched_somewhere (suc s.last) rest m.2 later)
       where
         go : (b : Bool) → touches mark s ≡ b → b || touched mark rest ≡ true → (touched mark rest ≡ true → Passing) → Passing
         go false e h later = later h
         go true e h later =
-            let k = some-marked (suc s.last - s.first) s.first e in
+            let k = some_marked (suc s.last - s.first) s.first e in
             let inside : k.address < suc s.last = omega (arith, k.within, m.0) in
             record {
               address = k.address;
@@ -223,19 +223,19 @@ module _ (first second : List ℕ) where
 
   -- There are at most 32,768.
   pub few : length (stretches_of first second) ≤ 32768
-  few = omega (arith, few-from (differ first second) 0 (stretches_of first second) all_maximal)
+  few = omega (arith, few_from (differ first second) 0 (stretches_of first second) all_maximal)
 
   module _ (mark : ℕ → Bool) where
     -- Where no stretch touches a mark, the memories have the same byte at every marked address;
     pub untouched : touched mark (stretches_of first second) ≡ false
         → (k : ℕ) → k < 65536 → mark k ≡ true → get_or first k 0 ≡ get_or second k 0
     untouched t k h e =
-        agrees k (not-touched mark (differ first second) 0 (stretches_of first second) all_maximal t k (omega arith) h e)
+        agrees k (not_touched mark (differ first second) 0 (stretches_of first second) all_maximal t k (omega arith) h e)
 
     -- where one does, they differ at a marked address.
     pub touching : touched mark (stretches_of first second) ≡ true → Touch first second mark
     touching t =
-        let k = touched-somewhere mark (differ first second) 0 (stretches_of first second) all_maximal t in
+        let k = touched_somewhere mark (differ first second) 0 (stretches_of first second) all_maximal t in
         record {
           address = k.address;
           within = k.within;

@@ -29,9 +29,9 @@ module _ (edition : Edition) where
       → Fits (perform (step_of edition cpu) w).result × Bytes (perform (step_of edition cpu) w).left
   step_widths cpu w fits bytes = performed (step_within edition cpu fits) w bytes
 
-  counted-within : (cpu : Processor) → Fits cpu → Within (λ (p : Progress Processor). Fits p.regs) (counted_step edition cpu)
+  counted_within : (cpu : Processor) → Fits cpu → Within (λ (p : Progress Processor). Fits p.regs) (counted_step edition cpu)
   unfolding counted_step
-  counted-within cpu fits = go (is_awake cpu.state) refl
+  counted_within cpu fits = go (is_awake cpu.state) refl
     where
       go : (b : Bool) → is_awake cpu.state ≡ b → Within (λ (p : Progress Processor). Fits p.regs) (counted_step edition cpu)
       go true e = rw e (follow (step_within edition cpu fits) (λ next f. ends f))
@@ -41,5 +41,5 @@ module _ (edition : Edition) where
   pub run_inside : (budget : ℕ) (cpu : Processor) (w : World) → Fits cpu → Bytes w → InMemory (trace (counted_step edition) budget cpu w)
   run_inside =
       runs.run_inside (counted_step edition) Fits
-      (λ cpu fits. inside (counted-within cpu fits))
-      (λ cpu w fits bytes. performed (counted-within cpu fits) w bytes)
+      (λ cpu fits. inside (counted_within cpu fits))
+      (λ cpu w fits bytes. performed (counted_within cpu fits) w bytes)

@@ -57,9 +57,9 @@ handed_alike registers image second o q s = go (ℕ_discrete o.result.refusal 0)
 -- Whatever the numbers are, and whatever is lent.
 module _ (edition budget : ℕ) (registers image map : List ℕ) (byte : ℕ) where
   -- the engine's own maps are handed back, refused or not
-  its-marks : Keeps (handed registers image (answer_to edition budget (whole_of registers) image)).left.reads map
+  its_marks : Keeps (handed registers image (answer_to edition budget (whole_of registers) image)).left.reads map
       → Keeps (answer_to edition budget (whole_of registers) image).left.reads map
-  its-marks more =
+  its_marks more =
       elim (ℕ_discrete (refusal_of edition (world image clear clear)) 0) [
         | yes z ↦ rw (eq-eqb _ _ z) (rw (eq-eqb _ _ z) at more)
         | no n ↦ rw (ne_eqb _ _ n) (rw (ne_eqb _ _ n, ne_eqb _ _ n) at more)
@@ -82,7 +82,7 @@ module _ (edition budget : ℕ) (registers image map : List ℕ) (byte : ℕ) wh
       go true whole =
           rw whole
           (handed_alike registers image (blank_call map byte image).left _ _
-          (same_answer edition budget (whole_of registers) image map byte (its-marks (rw whole at more))))
+          (same_answer edition budget (whole_of registers) image map byte (its_marks (rw whole at more))))
 
 -- ---- what the call answers and leaves
 

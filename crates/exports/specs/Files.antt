@@ -12,18 +12,18 @@ use Rattle.state.specs.Theorems.{record_to_whole_and_back, bytes_whole, whole_to
 use Rattle.spc_file.specs.Calls.{refusal_of, file_read, read_of, memory_of, write_of}
 use Rattle.spc_file.specs.Theorems as spc
 use Rattle.conversion.specs.Calls.{file_from_record, record_from_file}
-use Rattle.conversion.specs.Theorems as conversion
+use Rattle.conversion.proofs.BothWays as conversion
 use Rattle.exports.specs.Calls.{packed, numbered, file_read_call, file_write_call, file_from_record_call, record_from_file_call}
 
 -- ---- the calls, past the test of the registers
 
 module _ (file registers : List ℕ) where
-  read-refused : length registers ≡ 8 → (refusal_of file ≡ 0 → ⊥) → file_read_call file registers ≡ filled (packed (refusal_of file) 0 0) registers
-  read-refused eight n = rw (eq-eqb _ _ eight, ne_eqb _ _ n, ne_eqb _ _ n)
+  read_refused : length registers ≡ 8 → (refusal_of file ≡ 0 → ⊥) → file_read_call file registers ≡ filled (packed (refusal_of file) 0 0) registers
+  read_refused eight n = rw (eq-eqb _ _ eight, ne_eqb _ _ n, ne_eqb _ _ n)
 
-  read-accepted : length registers ≡ 8 → {cpu : Processor} → read_of file ≡ file_read 0 cpu
+  read_accepted : length registers ≡ 8 → {cpu : Processor} → read_of file ≡ file_read 0 cpu
       → file_read_call file registers ≡ filled 0 (whole_bytes_of cpu)
-  read-accepted eight e = rw (eq-eqb _ _ eight, e)
+  read_accepted eight e = rw (eq-eqb _ _ eight, e)
 
   wrote : is_whole registers ≡ true → (memory : List ℕ) {o : Filled ℕ} → write_of (whole_of registers) memory file ≡ o
       → file_write_call registers memory file ≡ filled (packed o.answer 0 0) o.left
@@ -56,11 +56,11 @@ module _ (file registers : List ℕ) where
       go : Dec (length registers ≡ 8) → Dec (refusal_of file ≡ 0)
           → file_write_call (file_read_call file registers).left (memory_of file) file ≡ filled 0 file
       go (no n) d = absurd (omega (arith, rw (ne_eqb _ _ n) at e))
-      go (yes s) (no n) = absurd (n (none_refused (refusal_of file) (rw (read-refused file registers s n) at e)))
+      go (yes s) (no n) = absurd (n (none_refused (refusal_of file) (rw (read_refused file registers s n) at e)))
       go (yes s) (yes z) =
           let cpu = (read_of file).cpu in
           let is : read_of file ≡ file_read 0 cpu = rw (eq-eqb _ _ z) in
-          rw (read-accepted file registers s is) (wrote file (whole_bytes_of cpu) (bytes_whole cpu) (memory_of file) (written_again file bytes z))
+          rw (read_accepted file registers s is) (wrote file (whole_bytes_of cpu) (bytes_whole cpu) (memory_of file) (written_again file bytes z))
 
   -- and no more does a write behind a read that was refused: it is refused, too, though it may be with another number.
   pub refused_both_times : ((file_read_call file registers).answer ≡ 0 → ⊥)
@@ -72,9 +72,9 @@ module _ (file registers : List ℕ) where
       go (no n) d b w = rw (ne_eqb _ _ n, ne_eqb _ _ n) (record { refused = λ e. omega arith; stays = refl })
       go (yes s) (yes z) b w = absurd (refused (rw (eq-eqb _ _ s, eq-eqb _ _ z)))
       go (yes s) (no n) true w =
-          rw (read-refused file registers s n, wrote file registers w (memory_of file) (spc.refused_file (whole_of registers) (memory_of file) file n))
+          rw (read_refused file registers s n, wrote file registers w (memory_of file) (spc.refused_file (whole_of registers) (memory_of file) file n))
           (record { refused = λ e. n (none_refused (refusal_of file) e); stays = refl })
-      go (yes s) (no n) false w = rw (read-refused file registers s n, w) (record { refused = λ e. omega arith; stays = refl })
+      go (yes s) (no n) false w = rw (read_refused file registers s n, w) (record { refused = λ e. omega arith; stays = refl })
 
 -- what the calls give back of a file
 pub record GivesBack (registers memory file : List ℕ) : Type 0 where
@@ -91,7 +91,7 @@ write_then_read registers memory file bytes e = go (is_whole registers) refl
     go true w =
         let back = spc.write_then_read (whole_of registers) memory file (none_refused _ (rw w at e)) in
         rw w (record {
-          read = λ into eight. rw (read-accepted _ into eight back.read, whole_to_record_and_back registers bytes w);
+          read = λ into eight. rw (read_accepted _ into eight back.read, whole_to_record_and_back registers bytes w);
           part = back.part;
         })
 

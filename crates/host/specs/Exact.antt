@@ -43,13 +43,13 @@ law false true n m q = refl
 law false false n m q = refl
 
 module _ (k : ℕ) where
-  needed-append : (s t : List Event) → needed k (s ++ t) ≡ (needed k s || not (stored k s) && needed k t)
-  needed-append [] t = refl
-  needed-append (e ∷ s) t = rw (needed-append s t) (sym (law (reads_at k e) (stores_at k e) (needed k s) (stored k s) (needed k t)))
+  needed_append : (s t : List Event) → needed k (s ++ t) ≡ (needed k s || not (stored k s) && needed k t)
+  needed_append [] t = refl
+  needed_append (e ∷ s) t = rw (needed_append s t) (sym (law (reads_at k e) (stores_at k e) (needed k s) (stored k s) (needed k t)))
 
-  stored-append : (s t : List Event) → stored k (s ++ t) ≡ (stored k s || stored k t)
-  stored-append [] t = refl
-  stored-append (e ∷ s) t = rw (stored-append s t, or_assoc)
+  stored_append : (s t : List Event) → stored k (s ++ t) ≡ (stored k s || stored k t)
+  stored_append [] t = refl
+  stored_append (e ∷ s) t = rw (stored_append s t, or_assoc)
 
 -- ---- a turn, and a playing
 
@@ -70,9 +70,9 @@ both : {k : ℕ} {a b c : World} {s t : List Event} → Marked k a b s → Marke
 both {k} {a} {b} {c} {s} {t} one two = record {
   reads =
       two.reads
-      ∙ rw (one.reads, one.writes, needed-append k s t)
+      ∙ rw (one.reads, one.writes, needed_append k s t)
       (law (is_marked a.reads k) (is_marked a.writes k) (needed k s) (stored k s) (needed k t));
-  writes = two.writes ∙ rw (one.writes, stored-append k s t, or_assoc);
+  writes = two.writes ∙ rw (one.writes, stored_append k s t, or_assoc);
 }
 
 module _ (edition : Edition) (until : ℕ) (k : ℕ) (h : k < 65536) (other : Outside 0xF0 0xFF k) where
@@ -92,11 +92,11 @@ module _ (edition : Edition) (until : ℕ) (k : ℕ) (h : k < 65536) (other : Ou
         writes = rw (replays step (ready p), writes_replay k h t (ready p) sized, unmarked_same other p.world.writes);
       }
 
-  in-playing : (n : ℕ) (p : Playing) → Whole p → Marked k p.world (play_of edition until n p).playing.world (accesses edition until n p)
+  in_playing : (n : ℕ) (p : Playing) → Whole p → Marked k p.world (play_of edition until n p).playing.world (accesses edition until n p)
   unfolding play_of accesses
-  in-playing zero p whole = none k p.world
-  in-playing (suc n) p whole =
-      go (goes_on until p.player) refl (in-playing n (turn_of edition p) (turn_keeps edition p whole))
+  in_playing zero p whole = none k p.world
+  in_playing (suc n) p whole =
+      go (goes_on until p.player) refl (in_playing n (turn_of edition p) (turn_keeps edition p whole))
     where
       go : (b : Bool) → goes_on until p.player ≡ b
           → Marked k (turn_of edition p).world (play_of edition until n (turn_of edition p)).playing.world (accesses edition until n (turn_of edition p))
@@ -109,9 +109,9 @@ module _ (edition : Edition) (until : ℕ) (k : ℕ) (h : k < 65536) (other : Ou
     -- the read map marks an address exactly when some step reads it before any step has stored there,
     pub read_map_exact : (is_marked (play_of edition until n p).playing.world.reads k ≡ true) ↔ ReadFirst k (accesses edition until n p)
     read_map_exact =
-        rw ((in-playing n p whole).reads, clear.reads k, clear.writes k) (needed_means k (accesses edition until n p))
+        rw ((in_playing n p whole).reads, clear.reads k, clear.writes k) (needed_means k (accesses edition until n p))
 
     -- and the written map exactly when some step stores there.
     pub written_map_exact :
         (is_marked (play_of edition until n p).playing.world.writes k ≡ true) ↔ StoredAt k (accesses edition until n p)
-    written_map_exact = rw ((in-playing n p whole).writes, clear.writes k) (stored_means k (accesses edition until n p))
+    written_map_exact = rw ((in_playing n p whole).writes, clear.writes k) (stored_means k (accesses edition until n p))

@@ -51,9 +51,9 @@ length_keyed (suc n) voice bits chip = length_keyed n (voice + 1) (bits / 2) _ �
     go false = refl
 
 module _ (memory writes chip fetched : List ℕ) where
-  stored-keeps : SameLengths (sound chip fetched) (stored_to memory writes chip fetched)
+  stored_keeps : SameLengths (sound chip fetched) (stored_to memory writes chip fetched)
   unfolding stored_to
-  stored-keeps = go (leb 128 register) (eqb register 0x4C)
+  stored_keeps = go (leb 128 register) (eqb register 0x4C)
     where
       register : ℕ
       register = get_or memory 0xF2 0
@@ -78,17 +78,17 @@ heard_keeps : (read stored name : ℕ) (w : World) (s : Sound) → SameLengths s
 unfolding heard
 heard_keeps read stored name w s = go (bit read 3) (bit stored 3)
   where
-    length-asked : (b : Bool) → length (cond b (asked name s.chip) s.chip) ≡ length s.chip
-    length-asked true = length-set s.chip _ 1
-    length-asked false = refl
+    length_asked : (b : Bool) → length (cond b (asked name s.chip) s.chip) ≡ length s.chip
+    length_asked true = length-set s.chip _ 1
+    length_asked false = refl
 
     go : (asks stores : Bool)
         → let chip = cond asks (asked name s.chip) s.chip in
         SameLengths s (cond stores (stored_to w.memory w.writes chip s.fetched) (sound chip s.fetched))
     go asks true =
-        let more = stored-keeps w.memory w.writes (cond asks (asked name s.chip) s.chip) s.fetched in
-        record { chip = more.chip ∙ length-asked asks; fetched = more.fetched }
-    go asks false = record { chip = length-asked asks; fetched = refl }
+        let more = stored_keeps w.memory w.writes (cond asks (asked name s.chip) s.chip) s.fetched in
+        record { chip = more.chip ∙ length_asked asks; fetched = more.fetched }
+    go asks false = record { chip = length_asked asks; fetched = refl }
 
 -- ---- all of it
 

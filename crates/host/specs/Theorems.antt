@@ -150,9 +150,9 @@ module _ (edition : Edition) (until : ℕ) where
   abbrev pub both_go : Playing → Playing → Bool
   both_go p q = are_alike p q && goes_on until p.player && goes_on until q.player
 
-  of-both : (p q : Playing) → both_go p q ≡ true
+  of_both : (p q : Playing) → both_go p q ≡ true
       → (are_alike p q ≡ true) × (goes_on until p.player ≡ true) × (goes_on until q.player ≡ true)
-  of-both p q e = all_three (are_alike p q) (goes_on until p.player) (goes_on until q.player) e
+  of_both p q e = all_three (are_alike p q) (goes_on until p.player) (goes_on until q.player) e
 
   -- no step is taken where there is no budget, or where one of these fails; and else one of each
   pub no_budget : (p q : Playing) → beside_of edition until 0 p q ≡ pair p q 0
@@ -176,24 +176,24 @@ module _ (edition : Edition) (until : ℕ) where
     pub first : play_of edition until b.steps p ≡ progress b.first b.steps
     pub second : play_of edition until b.steps q ≡ progress b.second b.steps
 
-  none-taken : (p q : Playing) → EachPlays p q (pair p q 0)
+  none_taken : (p q : Playing) → EachPlays p q (pair p q 0)
   unfolding play_of
-  none-taken p q = record { first = refl; second = refl }
+  none_taken p q = record { first = refl; second = refl }
 
   pub beside_is_play : (n : ℕ) (p q : Playing) → EachPlays p q (beside_of edition until n p q)
-  beside_is_play zero p q = rw (no_budget p q) (none-taken p q)
+  beside_is_play zero p q = rw (no_budget p q) (none_taken p q)
   beside_is_play (suc n) p q = go (both_go p q) refl (beside_is_play n (turn_of edition p) (turn_of edition q))
     where
       go : (b : Bool) → both_go p q ≡ b
           → EachPlays (turn_of edition p) (turn_of edition q) (beside_of edition until n (turn_of edition p) (turn_of edition q))
           → EachPlays p q (beside_of edition until (suc n) p q)
       go true e later =
-          let on = of-both p q e in
+          let on = of_both p q e in
           rw (together n p q e) (record {
             first = next edition until p on.1 later.first;
             second = next edition until q on.2 later.second;
           })
-      go false e later = rw (parted (suc n) p q e) (none-taken p q)
+      go false e later = rw (parted (suc n) p q e) (none_taken p q)
 
   -- After every number of steps below those that are answered, both were alike: they part, if they do, with the last.
   pub alike_all_along : (n : ℕ) (p q : Playing) (m : ℕ) → m < (beside_of edition until n p q).steps
@@ -205,9 +205,9 @@ module _ (edition : Edition) (until : ℕ) where
           → ((i : ℕ) → i < (beside_of edition until n (turn_of edition p) (turn_of edition q)).steps
           → are_alike (play_of edition until i (turn_of edition p)).playing (play_of edition until i (turn_of edition q)).playing ≡ true)
           → are_alike (play_of edition until m p).playing (play_of edition until m q).playing ≡ true
-      go true e zero h all = ap₂ are_alike (no_step edition until p) (no_step edition until q) ∙ (of-both p q e).0
+      go true e zero h all = ap₂ are_alike (no_step edition until p) (no_step edition until q) ∙ (of_both p q e).0
       go true e (suc m) h all =
-          let on = of-both p q e in
+          let on = of_both p q e in
           ap₂ are_alike (later edition until m p on.1) (later edition until m q on.2)
           ∙ all m (omega (arith, rw (together n p q e) at h))
       go false e m h all = absurd (omega (arith, rw (parted (suc n) p q e) at h))

@@ -41,8 +41,8 @@ module _ (k : ℕ) (b : k < 256) {o : Operands} (g : Gathered o) where
   plain : Widths o.cpu × Unit {0}
   plain = (kept, tt)
 
-  into-a : {n : ℕ} → n < 256 → Widths (with_a n o.cpu) × Unit {0}
-  into-a h = ((h, g.cpu.x, g.cpu.y, g.cpu.sp, g.cpu.pc), tt)
+  into_a : {n : ℕ} → n < 256 → Widths (with_a n o.cpu) × Unit {0}
+  into_a h = ((h, g.cpu.x, g.cpu.y, g.cpu.sp, g.cpu.pc), tt)
 
   into_x : {n : ℕ} → n < 256 → Widths (with_x n o.cpu) × Unit {0}
   into_x h = ((g.cpu.a, h, g.cpu.y, g.cpu.sp, g.cpu.pc), tt)
@@ -50,103 +50,103 @@ module _ (k : ℕ) (b : k < 256) {o : Operands} (g : Gathered o) where
   with-y : {n : ℕ} → n < 256 → Widths (with_y n o.cpu)
   with-y h = (g.cpu.a, g.cpu.x, h, g.cpu.sp, g.cpu.pc)
 
-  into-y : {n : ℕ} → n < 256 → Widths (with_y n o.cpu) × Unit {0}
-  into-y h = (with-y h, tt)
+  into_y : {n : ℕ} → n < 256 → Widths (with_y n o.cpu) × Unit {0}
+  into_y h = (with-y h, tt)
 
-  into-ya : {a y : ℕ} → a < 256 → y < 256 → Widths (with_ya y a o.cpu) × Unit {0}
-  into-ya h i = ((h, g.cpu.x, i, g.cpu.sp, g.cpu.pc), tt)
+  into_ya : {a y : ℕ} → a < 256 → y < 256 → Widths (with_ya y a o.cpu) × Unit {0}
+  into_ya h i = ((h, g.cpu.x, i, g.cpu.sp, g.cpu.pc), tt)
 
   jump : Widths (with_pc o.at o.cpu) × Unit {0}
   jump = ((g.cpu.a, g.cpu.x, g.cpu.y, g.cpu.sp, g.at), tt)
 
   -- a byte or a word stored
-  to-byte : {n : ℕ} → n < 256 → Widths o.cpu × ((o.at < 65536) × (n < 256))
-  to-byte h = (kept, (g.at, h))
+  to_byte : {n : ℕ} → n < 256 → Widths o.cpu × ((o.at < 65536) × (n < 256))
+  to_byte h = (kept, (g.at, h))
 
   to_word : {m n : ℕ} → m < 256 → n < 256 → Widths o.cpu × ((o.at < 65536) × (m < 256) × (o.next < 65536) × (n < 256))
   to_word h i = (kept, (g.at, h, g.next, i))
 
   -- a branch: PC stays before the displacement, or passes it by
-  past-y : {n : ℕ} → n < 256 → Widths (onward (with_y n o.cpu))
-  past-y h = (g.cpu.a, g.cpu.x, h, g.cpu.sp, below_65536 _)
+  past_y : {n : ℕ} → n < 256 → Widths (onward (with_y n o.cpu))
+  past_y h = (g.cpu.a, g.cpu.x, h, g.cpu.sp, below_65536 _)
 
   branch : (op : Operation) → Widths (cond (effect_of op k o).taken o.cpu (onward o.cpu)) × Unit {0}
-  branch op = (either (effect_of op k o).taken _ _ kept (past-y g.cpu.y), tt)
+  branch op = (either (effect_of op k o).taken _ _ kept (past_y g.cpu.y), tt)
 
   pub made : (op : Operation) → Ready (effect_of op k o)
   unfolding effect_of
   made nop = plain
   made sleep = plain
   made stop = plain
-  made or_a = into-a (or_byte g.cpu.a g.low)
-  made and_a = into-a (and_byte _ g.cpu.a)
-  made eor_a = into-a (xor_byte g.cpu.a g.low)
+  made or_a = into_a (or_byte g.cpu.a g.low)
+  made and_a = into_a (and_byte _ g.cpu.a)
+  made eor_a = into_a (xor_byte g.cpu.a g.low)
   made cmp_a = plain
-  made adc_a = into-a (below_256 _)
-  made sbc_a = into-a (below_256 _)
-  made or_m = to-byte (or_byte g.high g.low)
-  made and_m = to-byte (and_byte _ g.high)
-  made eor_m = to-byte (xor_byte g.high g.low)
+  made adc_a = into_a (below_256 _)
+  made sbc_a = into_a (below_256 _)
+  made or_m = to_byte (or_byte g.high g.low)
+  made and_m = to_byte (and_byte _ g.high)
+  made eor_m = to_byte (xor_byte g.high g.low)
   made cmp_m = plain
-  made adc_m = to-byte (below_256 _)
-  made sbc_m = to-byte (below_256 _)
+  made adc_m = to_byte (below_256 _)
+  made sbc_m = to_byte (below_256 _)
   made cmp_x = plain
   made cmp_y = plain
-  made asl_a = into-a (below_256 _)
-  made rol_a = into-a (below_256 _)
-  made lsr_a = into-a (right_byte o.cpu.a false g.cpu.a)
-  made ror_a = into-a (right_byte o.cpu.a o.cpu.psw.c g.cpu.a)
-  made dec_a = into-a (below_256 _)
-  made inc_a = into-a (below_256 _)
-  made asl_m = to-byte (below_256 _)
-  made rol_m = to-byte (below_256 _)
-  made lsr_m = to-byte (right_byte o.low false g.low)
-  made ror_m = to-byte (right_byte o.low o.cpu.psw.c g.low)
-  made dec_m = to-byte (below_256 _)
-  made inc_m = to-byte (below_256 _)
+  made asl_a = into_a (below_256 _)
+  made rol_a = into_a (below_256 _)
+  made lsr_a = into_a (right_byte o.cpu.a false g.cpu.a)
+  made ror_a = into_a (right_byte o.cpu.a o.cpu.psw.c g.cpu.a)
+  made dec_a = into_a (below_256 _)
+  made inc_a = into_a (below_256 _)
+  made asl_m = to_byte (below_256 _)
+  made rol_m = to_byte (below_256 _)
+  made lsr_m = to_byte (right_byte o.low false g.low)
+  made ror_m = to_byte (right_byte o.low o.cpu.psw.c g.low)
+  made dec_m = to_byte (below_256 _)
+  made inc_m = to_byte (below_256 _)
   made dec_x = into_x (below_256 _)
   made inc_x = into_x (below_256 _)
-  made dec_y = into-y (below_256 _)
-  made inc_y = into-y (below_256 _)
-  made load_a = into-a g.low
+  made dec_y = into_y (below_256 _)
+  made inc_y = into_y (below_256 _)
+  made load_a = into_a g.low
   made load_x = into_x g.low
-  made load_y = into-y g.low
+  made load_y = into_y g.low
   made load_ainc = ((g.low, below_256 _, g.cpu.y, g.cpu.sp, g.cpu.pc), tt)
-  made store_a = to-byte g.cpu.a
-  made store_x = to-byte g.cpu.x
-  made store_y = to-byte g.cpu.y
+  made store_a = to_byte g.cpu.a
+  made store_x = to_byte g.cpu.x
+  made store_y = to_byte g.cpu.y
   made store_ainc = ((g.cpu.a, below_256 _, g.cpu.y, g.cpu.sp, g.cpu.pc), (g.at, g.cpu.a))
-  made store_byte = to-byte g.low
-  made mov_ax = into-a g.cpu.x
-  made mov_ay = into-a g.cpu.y
+  made store_byte = to_byte g.low
+  made mov_ax = into_a g.cpu.x
+  made mov_ay = into_a g.cpu.y
   made mov_xa = into_x g.cpu.a
-  made mov_ya = into-y g.cpu.a
+  made mov_ya = into_y g.cpu.a
   made mov_xsp = into_x g.cpu.sp
   made mov_spx = ((g.cpu.a, g.cpu.x, g.cpu.y, g.cpu.x, g.cpu.pc), tt)
-  made load_ya = into-ya g.low g.high
+  made load_ya = into_ya g.low g.high
   made store_ya = to_word g.cpu.a g.cpu.y
-  made addw = into-ya (below_256 _) (below_256 _)
-  made subw = into-ya (below_256 _) (below_256 _)
+  made addw = into_ya (below_256 _) (below_256 _)
+  made subw = into_ya (below_256 _) (below_256 _)
   made cmpw = plain
   made incw = to_word (below_256 _) (high_byte _)
   made decw = to_word (below_256 _) (high_byte _)
-  made mul = into-ya (below_256 _) (mul_high o.cpu.y o.cpu.a g.cpu.y g.cpu.a)
+  made mul = into_ya (below_256 _) (mul_high o.cpu.y o.cpu.a g.cpu.y g.cpu.a)
   made div = (div_widths o.cpu kept, tt)
   made daa = (daa_widths o.cpu kept, tt)
   made das = (das_widths o.cpu kept, tt)
-  made xcn = into-a (exchanged o.cpu.a g.cpu.a)
-  made tset1 = to-byte (or_byte g.low g.cpu.a)
-  made tclr1 = to-byte (and_byte _ g.low)
-  made set1 = to-byte (with_bit_lem true (bit_in_lem k b) g.low)
-  made clr1 = to-byte (with_bit_lem false (bit_in_lem k b) g.low)
+  made xcn = into_a (exchanged o.cpu.a g.cpu.a)
+  made tset1 = to_byte (or_byte g.low g.cpu.a)
+  made tclr1 = to_byte (and_byte _ g.low)
+  made set1 = to_byte (with_bit_lem true (bit_in_lem k b) g.low)
+  made clr1 = to_byte (with_bit_lem false (bit_in_lem k b) g.low)
   made and1 = plain
   made and1_n = plain
   made or1 = plain
   made or1_n = plain
   made eor1 = plain
-  made not1 = to-byte (xor_byte g.low g.high)
+  made not1 = to_byte (xor_byte g.low g.high)
   made load_c = plain
-  made store_c = to-byte (with_bit_lem o.cpu.psw.c g.high g.low)
+  made store_c = to_byte (with_bit_lem o.cpu.psw.c g.high g.low)
   made clrc = plain
   made setc = plain
   made notc = plain
@@ -168,7 +168,7 @@ module _ (k : ℕ) (b : k < 256) {o : Operands} (g : Gathered o) where
   made bbc = branch bbc
   made cbne = branch cbne
   made dbnz_m = ((branch dbnz_m).0, (g.at, below_256 _))
-  made dbnz_y = (either (effect_of dbnz_y k o).taken _ _ (with-y (below_256 _)) (past-y (below_256 _)), tt)
+  made dbnz_y = (either (effect_of dbnz_y k o).taken _ _ (with-y (below_256 _)) (past_y (below_256 _)), tt)
   made jmp = jump
   made call = (kept, g.at)
   made reti = jump
@@ -177,7 +177,7 @@ module _ (k : ℕ) (b : k < 256) {o : Operands} (g : Gathered o) where
   made push_x = (kept, g.cpu.x)
   made push_y = (kept, g.cpu.y)
   made push_psw = (kept, status_byte o.cpu.psw)
-  made pop_a = into-a g.low
+  made pop_a = into_a g.low
   made pop_x = into_x g.low
-  made pop_y = into-y g.low
+  made pop_y = into_y g.low
   made pop_psw = plain

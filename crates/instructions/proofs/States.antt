@@ -90,114 +90,114 @@ das_stays : (cpu : Processor) → (das_of cpu).state ≡ cpu.state
 das_stays cpu = either (not cpu.psw.c || ltb 0x99 cpu.a) _ cpu refl refl
 
 module _ (k : ℕ) (o : Operands) where
-  made-stays : (op : Operation) → ((effect_of op k o).cpu.state ≡ o.cpu.state) ⊎ ((op ≡ sleep) ⊎ (op ≡ stop))
+  made_stays : (op : Operation) → ((effect_of op k o).cpu.state ≡ o.cpu.state) ⊎ ((op ≡ sleep) ⊎ (op ≡ stop))
   unfolding effect_of
-  made-stays nop = inl refl
-  made-stays sleep = inr (inl refl)
-  made-stays stop = inr (inr refl)
-  made-stays or_a = inl refl
-  made-stays and_a = inl refl
-  made-stays eor_a = inl refl
-  made-stays cmp_a = inl refl
-  made-stays adc_a = inl refl
-  made-stays sbc_a = inl refl
-  made-stays or_m = inl refl
-  made-stays and_m = inl refl
-  made-stays eor_m = inl refl
-  made-stays cmp_m = inl refl
-  made-stays adc_m = inl refl
-  made-stays sbc_m = inl refl
-  made-stays cmp_x = inl refl
-  made-stays cmp_y = inl refl
-  made-stays asl_a = inl refl
-  made-stays rol_a = inl refl
-  made-stays lsr_a = inl refl
-  made-stays ror_a = inl refl
-  made-stays dec_a = inl refl
-  made-stays inc_a = inl refl
-  made-stays asl_m = inl refl
-  made-stays rol_m = inl refl
-  made-stays lsr_m = inl refl
-  made-stays ror_m = inl refl
-  made-stays dec_m = inl refl
-  made-stays inc_m = inl refl
-  made-stays dec_x = inl refl
-  made-stays inc_x = inl refl
-  made-stays dec_y = inl refl
-  made-stays inc_y = inl refl
-  made-stays load_a = inl refl
-  made-stays load_x = inl refl
-  made-stays load_y = inl refl
-  made-stays load_ainc = inl refl
-  made-stays store_a = inl refl
-  made-stays store_x = inl refl
-  made-stays store_y = inl refl
-  made-stays store_ainc = inl refl
-  made-stays store_byte = inl refl
-  made-stays mov_ax = inl refl
-  made-stays mov_ay = inl refl
-  made-stays mov_xa = inl refl
-  made-stays mov_ya = inl refl
-  made-stays mov_xsp = inl refl
-  made-stays mov_spx = inl refl
-  made-stays load_ya = inl refl
-  made-stays store_ya = inl refl
-  made-stays addw = inl refl
-  made-stays subw = inl refl
-  made-stays cmpw = inl refl
-  made-stays incw = inl refl
-  made-stays decw = inl refl
-  made-stays mul = inl refl
-  made-stays div = inl (div_stays o.cpu)
-  made-stays daa = inl (daa_stays o.cpu)
-  made-stays das = inl (das_stays o.cpu)
-  made-stays xcn = inl refl
-  made-stays tset1 = inl refl
-  made-stays tclr1 = inl refl
-  made-stays set1 = inl refl
-  made-stays clr1 = inl refl
-  made-stays and1 = inl refl
-  made-stays and1_n = inl refl
-  made-stays or1 = inl refl
-  made-stays or1_n = inl refl
-  made-stays eor1 = inl refl
-  made-stays not1 = inl refl
-  made-stays load_c = inl refl
-  made-stays store_c = inl refl
-  made-stays clrc = inl refl
-  made-stays setc = inl refl
-  made-stays notc = inl refl
-  made-stays clrv = inl refl
-  made-stays clrp = inl refl
-  made-stays setp = inl refl
-  made-stays ei = inl refl
-  made-stays di = inl refl
-  made-stays bpl = inl (past_or_not (effect_of bpl k o).taken o.cpu)
-  made-stays bmi = inl (past_or_not (effect_of bmi k o).taken o.cpu)
-  made-stays bvc = inl (past_or_not (effect_of bvc k o).taken o.cpu)
-  made-stays bvs = inl (past_or_not (effect_of bvs k o).taken o.cpu)
-  made-stays bcc = inl (past_or_not (effect_of bcc k o).taken o.cpu)
-  made-stays bcs = inl (past_or_not (effect_of bcs k o).taken o.cpu)
-  made-stays bne = inl (past_or_not (effect_of bne k o).taken o.cpu)
-  made-stays beq = inl (past_or_not (effect_of beq k o).taken o.cpu)
-  made-stays bra = inl (past_or_not (effect_of bra k o).taken o.cpu)
-  made-stays bbs = inl (past_or_not (effect_of bbs k o).taken o.cpu)
-  made-stays bbc = inl (past_or_not (effect_of bbc k o).taken o.cpu)
-  made-stays cbne = inl (past_or_not (effect_of cbne k o).taken o.cpu)
-  made-stays dbnz_m = inl (past_or_not (effect_of dbnz_m k o).taken o.cpu)
-  made-stays dbnz_y = inl (past_or_not (effect_of dbnz_y k o).taken (with_y _ o.cpu))
-  made-stays jmp = inl refl
-  made-stays call = inl refl
-  made-stays brk = inl refl
-  made-stays reti = inl refl
-  made-stays push_a = inl refl
-  made-stays push_x = inl refl
-  made-stays push_y = inl refl
-  made-stays push_psw = inl refl
-  made-stays pop_a = inl refl
-  made-stays pop_x = inl refl
-  made-stays pop_y = inl refl
-  made-stays pop_psw = inl refl
+  made_stays nop = inl refl
+  made_stays sleep = inr (inl refl)
+  made_stays stop = inr (inr refl)
+  made_stays or_a = inl refl
+  made_stays and_a = inl refl
+  made_stays eor_a = inl refl
+  made_stays cmp_a = inl refl
+  made_stays adc_a = inl refl
+  made_stays sbc_a = inl refl
+  made_stays or_m = inl refl
+  made_stays and_m = inl refl
+  made_stays eor_m = inl refl
+  made_stays cmp_m = inl refl
+  made_stays adc_m = inl refl
+  made_stays sbc_m = inl refl
+  made_stays cmp_x = inl refl
+  made_stays cmp_y = inl refl
+  made_stays asl_a = inl refl
+  made_stays rol_a = inl refl
+  made_stays lsr_a = inl refl
+  made_stays ror_a = inl refl
+  made_stays dec_a = inl refl
+  made_stays inc_a = inl refl
+  made_stays asl_m = inl refl
+  made_stays rol_m = inl refl
+  made_stays lsr_m = inl refl
+  made_stays ror_m = inl refl
+  made_stays dec_m = inl refl
+  made_stays inc_m = inl refl
+  made_stays dec_x = inl refl
+  made_stays inc_x = inl refl
+  made_stays dec_y = inl refl
+  made_stays inc_y = inl refl
+  made_stays load_a = inl refl
+  made_stays load_x = inl refl
+  made_stays load_y = inl refl
+  made_stays load_ainc = inl refl
+  made_stays store_a = inl refl
+  made_stays store_x = inl refl
+  made_stays store_y = inl refl
+  made_stays store_ainc = inl refl
+  made_stays store_byte = inl refl
+  made_stays mov_ax = inl refl
+  made_stays mov_ay = inl refl
+  made_stays mov_xa = inl refl
+  made_stays mov_ya = inl refl
+  made_stays mov_xsp = inl refl
+  made_stays mov_spx = inl refl
+  made_stays load_ya = inl refl
+  made_stays store_ya = inl refl
+  made_stays addw = inl refl
+  made_stays subw = inl refl
+  made_stays cmpw = inl refl
+  made_stays incw = inl refl
+  made_stays decw = inl refl
+  made_stays mul = inl refl
+  made_stays div = inl (div_stays o.cpu)
+  made_stays daa = inl (daa_stays o.cpu)
+  made_stays das = inl (das_stays o.cpu)
+  made_stays xcn = inl refl
+  made_stays tset1 = inl refl
+  made_stays tclr1 = inl refl
+  made_stays set1 = inl refl
+  made_stays clr1 = inl refl
+  made_stays and1 = inl refl
+  made_stays and1_n = inl refl
+  made_stays or1 = inl refl
+  made_stays or1_n = inl refl
+  made_stays eor1 = inl refl
+  made_stays not1 = inl refl
+  made_stays load_c = inl refl
+  made_stays store_c = inl refl
+  made_stays clrc = inl refl
+  made_stays setc = inl refl
+  made_stays notc = inl refl
+  made_stays clrv = inl refl
+  made_stays clrp = inl refl
+  made_stays setp = inl refl
+  made_stays ei = inl refl
+  made_stays di = inl refl
+  made_stays bpl = inl (past_or_not (effect_of bpl k o).taken o.cpu)
+  made_stays bmi = inl (past_or_not (effect_of bmi k o).taken o.cpu)
+  made_stays bvc = inl (past_or_not (effect_of bvc k o).taken o.cpu)
+  made_stays bvs = inl (past_or_not (effect_of bvs k o).taken o.cpu)
+  made_stays bcc = inl (past_or_not (effect_of bcc k o).taken o.cpu)
+  made_stays bcs = inl (past_or_not (effect_of bcs k o).taken o.cpu)
+  made_stays bne = inl (past_or_not (effect_of bne k o).taken o.cpu)
+  made_stays beq = inl (past_or_not (effect_of beq k o).taken o.cpu)
+  made_stays bra = inl (past_or_not (effect_of bra k o).taken o.cpu)
+  made_stays bbs = inl (past_or_not (effect_of bbs k o).taken o.cpu)
+  made_stays bbc = inl (past_or_not (effect_of bbc k o).taken o.cpu)
+  made_stays cbne = inl (past_or_not (effect_of cbne k o).taken o.cpu)
+  made_stays dbnz_m = inl (past_or_not (effect_of dbnz_m k o).taken o.cpu)
+  made_stays dbnz_y = inl (past_or_not (effect_of dbnz_y k o).taken (with_y _ o.cpu))
+  made_stays jmp = inl refl
+  made_stays call = inl refl
+  made_stays brk = inl refl
+  made_stays reti = inl refl
+  made_stays push_a = inl refl
+  made_stays push_x = inl refl
+  made_stays push_y = inl refl
+  made_stays push_psw = inl refl
+  made_stays pop_a = inl refl
+  made_stays pop_x = inl refl
+  made_stays pop_y = inl refl
+  made_stays pop_psw = inl refl
 
 -- ---- the table
 
@@ -219,7 +219,7 @@ row_stays : (opcode : ℕ) → opcode < 256 → (opcode ≡ 0xEF → ⊥) → (o
 unfolding effect_of
 row_stays opcode h sleeps stops o =
     let left = row_awake opcode h sleeps stops in
-    ⊎_elim (λ e. e) (⊎_elim (λ e. absurd (rw e at left)) (λ e. absurd (rw e at left))) (made-stays opcode o (row_of opcode).operation)
+    ⊎_elim (λ e. e) (⊎_elim (λ e. absurd (rw e at left)) (λ e. absurd (rw e at left))) (made_stays opcode o (row_of opcode).operation)
 
 -- and those two leave their own.
 row_state : (opcode : ℕ) → opcode < 256 → (o : Operands)
@@ -275,11 +275,11 @@ module _ (edition : Edition) (cpu : Processor) (opcode : ℕ) (h : opcode < 256)
       (only_reads_end Gathered gather (mode_reads edition (row_of opcode).mode opcode (onward cpu)))
       (λ o same. (refl, same))
 
-  made-state : (b : Begun) → Read b → (made_of b).cpu.state ≡ state_after opcode cpu.state
-  made-state b read =
+  made_state : (b : Begun) → Read b → (made_of b).cpu.state ≡ state_after opcode cpu.state
+  made_state b read =
       row_state b.opcode (rw read.0 h) b.operands ∙ rw (read.0, read.1)
 
   pub after_opcode_lem : Ends (In (state_after opcode cpu.state)) (after_opcode edition cpu opcode)
   after_opcode_lem =
       ends_then Read (In (state_after opcode cpu.state)) (read_for edition (produced (onward cpu) opcode)) (λ b. finish_of (made_of b)) read_stays
-      (λ b read. subst (λ (s : State). Ends (In s) (finish_of (made_of b))) (made-state b read) (finish_stays (made_of b)))
+      (λ b read. subst (λ (s : State). Ends (In s) (finish_of (made_of b))) (made_state b read) (finish_stays (made_of b)))

@@ -67,17 +67,17 @@ module _ {start : ℕ} {code : List ℕ} {done at address : ℕ} (u : Upto start
   left = lines_of 0 ((address + bytes) % 65536) (drop (at + bytes) code)
 
   module _ (h : at < length code) where
-    code-left : 0 < length (drop at code)
-    code-left = rw length-drop (omega arith)
+    code_left : 0 < length (drop at code)
+    code_left = rw length-drop (omega arith)
 
     split : drop done (lines_of 0 start code) ≡ line ++ left
-    split = rw (u.rest, ← drop-drop) (lines_first address (drop at code) code-left)
+    split = rw (u.rest, ← drop-drop) (lines_first address (drop at code) code_left)
 
     one_more : Upto start code (done + length line) (at + bytes) ((address + bytes) % 65536)
     one_more =
         let parts = rw (length-drop, length-append) at (ap length split) in
         record {
-          place = omega (arith, rw length-drop at (turn_within (drop at code) code-left).1);
+          place = omega (arith, rw length-drop at (turn_within (drop at code) code_left).1);
           word = mod-lt (address + bytes) (omega arith);
           within = omega arith;
           rest = rw (← drop-drop (length line) done (lines_of 0 start code), split, drop-append_seam);
@@ -97,19 +97,19 @@ module _ {start : ℕ} {code : List ℕ} {done at address : ℕ} (u : Upto start
 -- ---- a turn of the code: the bytes that a line stands for, and the line
 
 module _ (code : List ℕ) (at n : ℕ) (q : n ≡ turn_bytes (drop at code)) (h : at < length code) where
-  within-code : (0 < n) × (at + n ≤ length code)
-  within-code =
+  within_code : (0 < n) × (at + n ≤ length code)
+  within_code =
       let some : 0 < length (drop at code) = rw length-drop (omega arith) in
       let bounds = rw length-drop at (turn_within (drop at code) some) in (omega arith, omega arith)
 
   pub fewer_left : length code - (at + n) < length code - at
-  fewer_left = omega (arith, within-code)
+  fewer_left = omega (arith, within_code)
 
   pub bytes_fit : length code ≤ 4096 → Fits w16 n
-  bytes_fit small = omega (arith, within-code)
+  bytes_fit small = omega (arith, within_code)
 
   pub place_fits : length code ≤ 4096 → Fits w64 (at + n)
-  place_fits small = omega (arith, within-code)
+  place_fits small = omega (arith, within_code)
 
   module _ (start done address : ℕ) (u : Upto start code done at address) (fits : (i : ℕ) → Fits w8 (get_or code i 0))
       (l : Line) (p : l ≡ adds blank (turn_text address (drop at code))) where

@@ -37,29 +37,29 @@ unfolding data_of constants length_of
 few_bytes = most_below 256 length_of (λ k. 3) tt
 
 module _ (bytes : List ℕ) (small : Bytes bytes) where
-  length-operand : (o : Operand) → length (text_at o.mode bytes o.at) ≤ room o.mode
-  length-operand o = length_mode o.mode (slice_index bytes o.at) (slice_index bytes (o.at + 1)) (small o.at)
+  length_operand : (o : Operand) → length (text_at o.mode bytes o.at) ≤ room o.mode
+  length_operand o = length_mode o.mode (slice_index bytes o.at) (slice_index bytes (o.at + 1)) (small o.at)
 
-  length-joined : (o : Operand) (os : List Operand) → length (joined (o ∷ os) bytes) + 1 ≤ operands_room (o ∷ os)
-  length-joined o [] = omega (arith, length-operand o)
-  length-joined o (p ∷ os) = simp length-append (omega (arith, length-operand o, length-joined p os))
+  length_joined : (o : Operand) (os : List Operand) → length (joined (o ∷ os) bytes) + 1 ≤ operands_room (o ∷ os)
+  length_joined o [] = omega (arith, length_operand o)
+  length_joined o (p ∷ os) = simp length-append (omega (arith, length_operand o, length_joined p os))
 
-  length-operands : (os : List Operand) → length (operands_text os bytes) ≤ operands_room os
-  length-operands [] = omega arith
-  length-operands (o ∷ os) = omega (arith, length-joined o os)
+  length_operands : (os : List Operand) → length (operands_text os bytes) ≤ operands_room os
+  length_operands [] = omega arith
+  length_operands (o ∷ os) = omega (arith, length_joined o os)
 
-  length-instruction : (opcode : ℕ) → opcode < 256 → length (instruction_text opcode bytes) + 6 ≤ 18 * length_of opcode
+  length_instruction : (opcode : ℕ) → opcode < 256 → length (instruction_text opcode bytes) + 6 ≤ 18 * length_of opcode
   unfolding instruction_text
-  length-instruction opcode h =
-      rw length-append (omega (arith, length-operands (operands_at opcode), short_line opcode h))
+  length_instruction opcode h =
+      rw length-append (omega (arith, length_operands (operands_at opcode), short_line opcode h))
 
-  length-line : (address opcode : ℕ) → opcode < 256 → length (line_text address opcode bytes) ≤ 18 * length_of opcode
+  length_line : (address opcode : ℕ) → opcode < 256 → length (line_text address opcode bytes) ≤ 18 * length_of opcode
   unfolding line_text
-  length-line address opcode h = simp length-append (omega (arith, length-instruction opcode h))
+  length_line address opcode h = simp length-append (omega (arith, length_instruction opcode h))
 
 -- a line of text, which holds 80 bytes, has room for each instruction
 pub instruction_fits : (opcode : ℕ) (bytes : List ℕ) → opcode < 256 → Bytes bytes → length (instruction_text opcode bytes) ≤ 80
-instruction_fits opcode bytes h small = omega (arith, length-instruction bytes small opcode h, few_bytes opcode h)
+instruction_fits opcode bytes h small = omega (arith, length_instruction bytes small opcode h, few_bytes opcode h)
 
 -- ---- one line of the listing
 
@@ -76,11 +76,11 @@ turn_within (opcode ∷ code) h = go (is_cut (opcode ∷ code)) refl
 
 -- not too long for the bytes that it stands for, nor for a line of text
 module _ (address : ℕ) where
-  length-turn : (code : List ℕ) → Bytes code
+  length_turn : (code : List ℕ) → Bytes code
       → (length (turn_text address code) ≤ 18 * turn_bytes code) × (length (turn_text address code) ≤ 80)
   unfolding turn_text turn_bytes
-  length-turn [] small = (omega arith, omega arith)
-  length-turn (opcode ∷ code) small = go (is_cut (opcode ∷ code))
+  length_turn [] small = (omega arith, omega arith)
+  length_turn (opcode ∷ code) small = go (is_cut (opcode ∷ code))
     where
       line : Bool → List ℕ
       line b = cond b (text "refused 4\n") (line_text address opcode code)
@@ -88,11 +88,11 @@ module _ (address : ℕ) where
       go : (b : Bool) → (length (line b) ≤ 18 * cond b (length code + 1) (length_of opcode)) × (length (line b) ≤ 80)
       go true = (omega arith, omega arith)
       go false =
-          let short = length-line code (λ at. small (suc at)) address opcode (small 0) in
+          let short = length_line code (λ at. small (suc at)) address opcode (small 0) in
           (short, omega (arith, few_bytes opcode (small 0)))
 
   pub turn_fits : (code : List ℕ) → Bytes code → length (turn_text address code) ≤ 80
-  turn_fits code small = (length-turn code small).1
+  turn_fits code small = (length_turn code small).1
 
 -- ---- all lines
 
@@ -108,4 +108,4 @@ length_lines zero address (opcode ∷ code) small h =
     let n = turn_bytes (opcode ∷ code) in
     let some = turn_within (opcode ∷ code) (omega arith) in
     let later = length_lines (n - 1) ((address + 1) % 65536) code (λ at. small (suc at)) (omega arith) in
-    rw length-append (omega (arith, (length-turn address (opcode ∷ code) small).0))
+    rw length-append (omega (arith, (length_turn address (opcode ∷ code) small).0))

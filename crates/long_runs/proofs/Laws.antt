@@ -33,9 +33,9 @@ made_on_the_way p make f w =
 -- A step is the fetch of its opcode and then its row.
 module _ (edition : Edition) (cpu : Processor) {w left : World} {opcode : ℕ} {q : Outcome World Processor}
     (fetched : Does (fetch cpu) w (outcome (produced (onward cpu) opcode) left)) where
-  row-then : Does (row_does edition opcode (onward cpu)) left q → Does (step_of edition cpu) w q
+  row_then : Does (row_does edition opcode (onward cpu)) left q → Does (step_of edition cpu) w q
   unfolding step_of begin_of read_for
-  row-then does =
+  row_then does =
       let begun : Operands → Begun = λ o. record { opcode = opcode; operands = o } in
       found_then (fetch cpu) (read_for edition) (λ b. finish_of (made_of b)) fetched
       (record { is = does.is ∙ made_on_the_way (gather_of edition (row_of opcode).mode opcode (onward cpu)) begun (λ b. finish_of (made_of b)) left })
@@ -44,7 +44,7 @@ module _ (edition : Edition) (cpu : Processor) {w left : World} {opcode : ℕ} {
   pub step_by : (column : ℕ) (behind : Processor) → behind ≡ onward cpu → opcode % 32 ≡ column
       → Does (row_does edition (opcode_at column (opcode / 32)) behind) left q → Does (step_of edition cpu) w q
   step_by column behind e at does =
-      let whole : opcode_at column (opcode / 32) ≡ opcode = omega (arith, at) in row-then (rw (whole, e) at does)
+      let whole : opcode_at column (opcode / 32) ≡ opcode = omega (arith, at) in row_then (rw (whole, e) at does)
 
 -- A record is awake where its state's number is 0.
 awake_at : (stop : ℕ) → is_awake (state_of stop) ≡ eqb stop 0

@@ -92,11 +92,11 @@ module _ (bytes : List ℕ) (small : Bytes bytes) where
   length_at m at = omega (arith, within m (get_or bytes at 0) (get_or bytes (at + 1) 0) (small at))
 
   -- 11 bytes for each mode, and 2 between one and the next
-  length-list : (ms : List AddressMode) → length (modes_text ms bytes) ≤ 13 * length ms - 2
-  length-list [] = omega arith
-  length-list (m ∷ []) = omega (arith, length_at m 0)
-  length-list (m ∷ l ∷ ms) =
-      simp length-append (omega (arith, length_at m (taken (l ∷ ms)), length-list (l ∷ ms)))
+  length_list : (ms : List AddressMode) → length (modes_text ms bytes) ≤ 13 * length ms - 2
+  length_list [] = omega arith
+  length_list (m ∷ []) = omega (arith, length_at m 0)
+  length_list (m ∷ l ∷ ms) =
+      simp length-append (omega (arith, length_at m (taken (l ∷ ms)), length_list (l ∷ ms)))
 
 pub length_modes : (ms : List AddressMode) (bytes : List ℕ) → Bytes bytes → length ms ≤ 3 → length (modes_text ms bytes) ≤ 37
-length_modes ms bytes small h = omega (arith, length-list bytes small ms)
+length_modes ms bytes small h = omega (arith, length_list bytes small ms)

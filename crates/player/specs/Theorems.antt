@@ -102,15 +102,15 @@ either_size true one other e f = e
 either_size false one other e f = f
 
 module _ (p : Packet) (a : Accepted p) where
-  start-size : length (begun_of p).fetched ≡ 8192
+  start_size : length (begun_of p).fetched ≡ 8192
   unfolding start_of
-  start-size =
+  start_size =
       either_size (begins_in p.head) _ _
       (length_voices p.world.memory p.world.writes p.chip 8 0 255 p.fetched ∙ a.fetched)
       a.fetched
 
-  begun-whole : Whole (begun_of p)
-  begun-whole = record { world = a.sized; chip = a.chip; fetched = start-size }
+  begun_whole : Whole (begun_of p)
+  begun_whole = record { world = a.sized; chip = a.chip; fetched = start_size }
 
   -- The accesses of all steps that an accepted packet is played on by.
   abbrev pub accesses_of : List Event
@@ -123,13 +123,13 @@ module _ (p : Packet) (a : Accepted p) where
     unfolding played_of finished
     read_map_exact =
         rw (eq-eqb _ _ (accepts p a), unmarked_same other (played_to p).playing.world.reads)
-        (exact.read_map_exact _ _ k h other _ (begun_of p) begun-whole clear)
+        (exact.read_map_exact _ _ k h other _ (begun_of p) begun_whole clear)
 
     pub written_map_exact : (is_marked (played_of p).left.world.writes k ≡ true) ↔ StoredAt k accesses_of
     unfolding played_of finished
     written_map_exact =
         rw (eq-eqb _ _ (accepts p a), unmarked_same other (played_to p).playing.world.writes)
-        (exact.written_map_exact _ _ k h other _ (begun_of p) begun-whole clear)
+        (exact.written_map_exact _ _ k h other _ (begun_of p) begun_whole clear)
 
 -- ---- a playing in parts
 
@@ -169,8 +169,8 @@ module _ (head : List ℕ) (size : length head ≡ 64) (player : Player) (steps 
   two_size : length two ≡ 64
   two_size = length-sets one 10 (whole_bytes_of player.cpu) ∙ one_size
 
-  three-size : length three ≡ 64
-  three-size = length-sets two 18 (four_bytes steps) ∙ two_size
+  three_size : length three ≡ 64
+  three_size = length-sets two 18 (four_bytes steps) ∙ two_size
 
   goes : get_or (head_of head player steps) 9 0 ≡ 1
   goes =
@@ -179,32 +179,32 @@ module _ (head : List ℕ) (size : length head ≡ 64) (player : Player) (steps 
       ∙ other_place (whole_bytes_of player.cpu) one 10 9 (λ i h e. omega arith)
       ∙ get_or-set_same head 9 1 0 (omega arith)
 
-  registers-there : registers_in (head_of head player steps) ≡ whole_bytes_of player.cpu
+  registers_there : registers_in (head_of head player steps) ≡ whole_bytes_of player.cpu
   unfolding whole_bytes_of bytes_of
-  registers-there =
-      part_before 8 10 (devices_bytes player.devices) three 23 (omega arith) (omega (arith, three-size))
+  registers_there =
+      part_before 8 10 (devices_bytes player.devices) three 23 (omega arith) (omega (arith, three_size))
       ∙ part_before 8 10 (four_bytes steps) two 18 (omega arith) (omega (arith, two_size))
       ∙ stored_part (whole_bytes_of player.cpu) one 10 (omega (arith, one_size))
 
-  devices-there : devices_in (head_of head player steps) ≡ devices_bytes player.devices
+  devices_there : devices_in (head_of head player steps) ≡ devices_bytes player.devices
   unfolding devices_bytes
-  devices-there = stored_part (devices_bytes player.devices) three 23 (omega (arith, three-size))
+  devices_there = stored_part (devices_bytes player.devices) three 23 (omega (arith, three_size))
 
   -- Who begins from it has the player back.
-  player-back : (chip memory writes fetched : List ℕ)
+  player_back : (chip memory writes fetched : List ℕ)
       → start_of (head_of head player steps) chip memory writes fetched ≡ record { player = player; fetched = fetched }
   unfolding start_of
-  player-back chip memory writes fetched =
+  player_back chip memory writes fetched =
       let later : eqb (get_or (head_of head player steps) 9 0) 0 ≡ false = rw goes in
-      let cpu = ap whole_of registers-there ∙ record_to_whole_and_back player.cpu in
-      let devices = ap devices_of devices-there ∙ devices_and_back player.devices in
+      let cpu = ap whole_of registers_there ∙ record_to_whole_and_back player.cpu in
+      let devices = ap devices_of devices_there ∙ devices_and_back player.devices in
       rw (later, cpu, devices)
 
   -- So does a packet with this head, in which a playing was left.
-  from-there : (q : Playing) → q.player ≡ player → GoesOn q (begun_of (finished (head_of head player steps) q))
+  from_there : (q : Playing) → q.player ≡ player → GoesOn q (begun_of (finished (head_of head player steps) q))
   unfolding finished
-  from-there q is =
-      let back = player-back q.chip q.world.memory (with_marks q.world.writes 0) q.fetched in
+  from_there q is =
+      let back = player_back q.chip q.world.memory (with_marks q.world.writes 0) q.fetched in
       record {
         player = ap (λ (s : Start). s.player) back ∙ sym is;
         memory = refl;
@@ -224,7 +224,7 @@ module _ (p : Packet) (z : refusal_of p ≡ 0) where
   goes_on =
       let o = played_to p in
       subst (λ (l : Packet). GoesOn o.playing (begun_of l)) (sym left_is)
-      (from-there p.head (accepted p z).head o.playing.player o.steps o.playing refl)
+      (from_there p.head (accepted p z).head o.playing.player o.steps o.playing refl)
 
 -- ---- marks that were taken out
 

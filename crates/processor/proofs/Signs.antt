@@ -36,9 +36,9 @@ module _ (l r carry byte : ℕ) (h : l < 256) (g : r < 256) (k : carry ≤ 1) (e
   mixed : (z : ℤ) → mag z ≤ 127 → false ≡ outside z
   mixed z m = sym (outside_mag z ∙ le-ltb 127 (mag z) m)
 
-  both-low : (c : Bool) → l < 128 → r < 128 → ltb byte 128 ≡ c → not c ≡ ltb 127 (l + r + carry)
-  both-low true x y t = sym (le-ltb 127 (l + r + carry) (omega (arith, ltb-true byte 128 t)))
-  both-low false x y t = sym (lt-ltb 127 (l + r + carry) (omega (arith, ltb-false byte 128 t)))
+  both_low : (c : Bool) → l < 128 → r < 128 → ltb byte 128 ≡ c → not c ≡ ltb 127 (l + r + carry)
+  both_low true x y t = sym (le-ltb 127 (l + r + carry) (omega (arith, ltb-true byte 128 t)))
+  both_low false x y t = sym (lt-ltb 127 (l + r + carry) (omega (arith, ltb-false byte 128 t)))
 
   -- what it then lacks to -1
   abbrev lack : ℕ
@@ -58,8 +58,8 @@ module _ (l r carry byte : ℕ) (h : l < 256) (g : r < 256) (k : carry ≤ 1) (e
     where
       go : (a b c : Bool) → ltb l 128 ≡ a → ltb r 128 ≡ b → ltb byte 128 ≡ c
           → (beq a b && not (beq a c)) ≡ outside (sum a b)
-      go true true true x y t = both-low true (ltb-true l 128 x) (ltb-true r 128 y) t
-      go true true false x y t = both-low false (ltb-true l 128 x) (ltb-true r 128 y) t
+      go true true true x y t = both_low true (ltb-true l 128 x) (ltb-true r 128 y) t
+      go true true false x y t = both_low false (ltb-true l 128 x) (ltb-true r 128 y) t
       go true false c x y t =
           mixed (sum true false)
           (mag_mixed l (suc (255 - r)) carry (omega (arith, ltb-true l 128 x)) (omega arith) (omega (arith, ltb-false r 128 y)) k)

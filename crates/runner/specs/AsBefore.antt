@@ -4,7 +4,8 @@
 use Rattle.std.specs.Prelude.{ℕ, ◌≡◌, refl, List, length}
 use Rattle.laws.specs.Bytes.{bytes_zeros}
 use Rattle.marks.specs.Counts.{counts_of}
-use Rattle.marks.specs.Sums.{marks_in, Sums, sums}
+use Rattle.marks.specs.Sums.{marks_in, Sums}
+use Rattle.marks.proofs.Sums.{sums}
 use Rattle.memory.specs.World.{World, Sized, world}
 use Rattle.editions.specs.declared.Edition.{Edition}
 use Rattle.processor.specs.declared.Processor.{Processor}
@@ -27,9 +28,9 @@ module _ (edition : Edition) (budget : ℕ) (cpu : Processor) (image : List ℕ)
   start : World
   start = world image clear clear
 
-  added-left : Added (played edition budget cpu image).left
+  added_left : Added (played edition budget cpu image).left
   unfolding start
-  added-left =
+  added_left =
       let t = trace (counted_step edition) budget cpu start in
       rw (accepted_sized edition budget cpu image size, run_replays (counted_step edition) budget cpu start)
       (added _ (sized_replay t start sized) (bytes_replay t start bytes))
@@ -48,4 +49,4 @@ module _ (edition : Edition) (budget : ℕ) (cpu : Processor) (image : List ℕ)
       (marks_in (played edition budget cpu image).left.writes)
       (counts_of (played edition budget cpu image).left.reads (played edition budget cpu image).left.writes).both
   unfolding closing_of
-  closing_as_before = rw (added-left.read, added-left.stored)
+  closing_as_before = rw (added_left.read, added_left.stored)

@@ -3,7 +3,7 @@
 -- is at most 2 and that there are no more steps than the budget is proved of the definition (Bounds), and that there are no more marks
 -- than addresses of any two maps (marks/specs/Sums).
 -- Assumes nothing.
-use Rattle.std.specs.Prelude.{ℕ, ◌+◌, ◌<◌, ◌≤◌, ◌≡◌, Bool, cond, List, eqb, length, take, drop}
+use Rattle.std.specs.Prelude.{ℕ, ◌<◌, ◌≤◌, ◌≡◌, Bool, cond, List, eqb, length, take, drop}
 use Rattle.std.proofs.Math.Bool.{true, false}
 use native.Mathlib.Omega.{arith}
 use Rattle.std.proofs.Common.{length-append}
@@ -12,8 +12,8 @@ use Rattle.text.specs.Line.{shown}
 use Rattle.text.specs.Quoted.{text}
 use Rattle.text.proofs.Laws.{length_decimal, shown_adds}
 use Rattle.psw.specs.Theorems.{text_length}
+use Rattle.psw.specs.declared.ProgramStatusWord.{ProgramStatusWord}
 use Rattle.processor.specs.Text.{registers_text}
-use Rattle.marks.specs.Counts.{counts_of}
 use Rattle.marks.specs.Sums.{few}
 use Rattle.memory.specs.World.{World}
 use Rattle.memory.specs.Access.{Outcome}
@@ -21,7 +21,7 @@ use Rattle.editions.specs.Editions.{is_edition, edition_of}
 use Rattle.state.specs.Registers.{registers_of}
 use Rattle.engine.specs.declared.Ran.{Ran}
 use Rattle.runner.specs.Bounds.{small}
-use Rattle.runner.specs.Session.{Session, edition_byte, budget_of, run_on, opening_of, closing_of, session_of, reported, refused}
+use Rattle.runner.specs.Session.{Session, edition_byte, budget_of, run_on, opening_of, closing_text, closing_of, session_of, reported, refused}
 use Rattle.runner.specs.Told.{Told}
 use Rattle.runner.specs.declared.Report.{Report}
 
@@ -36,15 +36,16 @@ unfolding opening_of registers_text
 length_opening r h g =
     simp length-append (omega (arith, length_decimal 0 r.stop (omega arith), length_decimal 9 r.steps (omega arith)))
 
+length_closing_text : (psw : ProgramStatusWord) {read written both : ℕ} → read < 100000 → written < 100000 → both < 100000
+    → length (closing_text psw read written both) ≤ 73
+length_closing_text psw {read} {written} {both} r w b =
+    simp (length-append, text_length) (omega (arith, length_decimal 4 read (omega arith), length_decimal 4 written (omega arith), length_decimal 4 both (omega arith)))
+
 length_closing : (o : Outcome World Ran) → length (closing_of o) ≤ 73
 unfolding closing_of
 length_closing o =
-    let counted = counts_of o.left.reads o.left.writes in
     let most = few o.left.reads o.left.writes in
-    let read = length_decimal 4 (counted.read_only + counted.both) (omega (arith, most.read)) in
-    let written = length_decimal 4 (counted.stored_only + counted.both) (omega (arith, most.stored)) in
-    let both = length_decimal 4 counted.both (omega (arith, most.read)) in
-    simp (length-append, text_length) (omega (arith, read, written, both))
+    length_closing_text o.result.cpu.psw (omega (arith, most.read)) (omega (arith, most.stored)) (omega (arith, most.read))
 
 -- ---- the theorem
 

@@ -51,8 +51,8 @@ module _ (final : List ℕ) where
   abbrev Within : World → Type 0
   Within w = Sized w → (k : ℕ) → k < 65536 → is_marked w.reads k ≡ true → is_marked final k ≡ true
 
-  within-before : (t : List Event) (w : World) → Within (replay t w) → Within w
-  within-before t w c s k h e = c (sized_replay t w s) k h (reads_stay t w k h s e)
+  within_before : (t : List Event) (w : World) → Within (replay t w) → Within w
+  within_before t w c s k h e = c (sized_replay t w s) k h (reads_stay t w k h s e)
 
   -- an address that is read is in the final map, unless it was stored to before
   noted : (a : ℕ) (v : World) → Sized v → Within (seen a v) → a < 65536 → is_marked v.writes a ≡ false → is_marked final a ≡ true
@@ -66,15 +66,15 @@ module _ (final : List ℕ) where
       go (yes h) false e = s.bytes a h (rw (noted a v s.left c h e, or-true))
       go (no h) b e = get_or-eq_default v.memory 0 (omega arith) ∙ sym (get_or-eq_default w.memory 0 (omega arith))
 
-  alike-effect : (e : Event) (v w : World) → Alike final v w → Alike final (effect e v) (effect e w)
-  alike-effect (read a) v w s = record {
+  alike_effect : (e : Event) (v w : World) → Alike final v w → Alike final (effect e v) (effect e w)
+  alike_effect (read a) v w s = record {
     left = sized_effect (read a) v s.left;
     right = sized_effect (read a) w s.right;
     reads = rw (s.reads, s.writes);
     writes = s.writes;
     bytes = s.bytes;
   }
-  alike-effect (store a x) v w s = record {
+  alike_effect (store a x) v w s = record {
     left = sized_effect (store a x) v s.left;
     right = sized_effect (store a x) w s.right;
     reads = s.reads;
@@ -92,10 +92,10 @@ module _ (final : List ℕ) where
   agree (done x) v w s c = record { result = refl; left = s }
   agree (read_at a p) v w s c =
       let x = byte_at a v in
-      let covered = within-before (events (p x) (seen a v)) (seen a v) (rw replays at c) in
+      let covered = within_before (events (p x) (seen a v)) (seen a v) (rw replays at c) in
       subst (λ (y : ℕ). Agreed (Alike final) (perform (p x) (seen a v)) (perform (p y) (seen a w))) (same_byte a v w s covered)
-      (agree (p x) (seen a v) (seen a w) (alike-effect (read a) v w s) c)
-  agree (store_at a x p) v w s c = agree p (kept a x v) (kept a x w) (alike-effect (store a x) v w s) c
+      (agree (p x) (seen a v) (seen a w) (alike_effect (read a) v w s) c)
+  agree (store_at a x p) v w s c = agree p (kept a x v) (kept a x w) (alike_effect (store a x) v w s) c
 
 -- ---- bytes that no step stored
 
@@ -130,7 +130,7 @@ module _ {Regs : Type 0} (step : Regs → Access (Progress Regs)) (n : ℕ) (r :
       let final = (run (taken step) n r w).left.reads in
       let size : Sized (on w second) = record { memory = l; reads = f.sized.reads; writes = f.sized.writes } in
       let start : Alike final w (on w second) = record { left = f.sized; right = size; reads = refl; writes = refl; bytes = λ k h e. same k h (rw (f.writes k) at e) } in
-      let end = run_both (taken step) (Within final) (Alike final) (λ r w c. within-before final (events (step r) w) w (rw replays at c)) (λ r. agree final (step r)) n r w (on w second) start (λ s k h e. e) in
+      let end = run_both (taken step) (Within final) (Alike final) (λ r w c. within_before final (events (step r) w) w (rw replays at c)) (λ r. agree final (step r)) n r w (on w second) start (λ s k h e. e) in
       record {
         result = end.result;
         reads = end.left.reads;

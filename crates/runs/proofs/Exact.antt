@@ -35,12 +35,12 @@ module _ (k : ℕ) where
       go true q h more = record { before = []; byte = (is_store e q).0; after = t; split = ap (◌∷ t) (is_store e q).1 }
       go false q h more = let s = more h in record { before = e ∷ s.before; byte = s.byte; after = s.after; split = ap (e ∷◌) s.split }
 
-  stored-split : (s : List Event) (v : ℕ) (t : List Event) → stored k (s ++ store k v ∷ t) ≡ true
-  stored-split [] v t = rw (eq-eqb k k refl)
-  stored-split (e ∷ s) v t = rw (stored-split s v t, or-true)
+  stored_split : (s : List Event) (v : ℕ) (t : List Event) → stored k (s ++ store k v ∷ t) ≡ true
+  stored_split [] v t = rw (eq-eqb k k refl)
+  stored_split (e ∷ s) v t = rw (stored_split s v t, or-true)
 
   pub stored_means : (t : List Event) → (stored k t ≡ true) ↔ StoredAt k t
-  stored_means t = (stores t, λ s. rw s.split (stored-split s.before s.byte s.after))
+  stored_means t = (stores t, λ s. rw s.split (stored_split s.before s.byte s.after))
 
   needs : (t : List Event) → needed k t ≡ true → ReadFirst k t
   needs [] h = absurd (false≢true h)
@@ -53,9 +53,9 @@ module _ (k : ℕ) where
       go false q false r h more =
           let n = more h in record { before = e ∷ n.before; after = n.after; split = ap (e ∷◌) n.split; first = rw r n.first }
 
-  needed-split : (s t : List Event) → stored k s ≡ false → needed k (s ++ read k ∷ t) ≡ true
-  needed-split [] t h = rw (eq-eqb k k refl)
-  needed-split (e ∷ s) t h = go (stores_at k e) refl h (λ g. needed-split s t g)
+  needed_split : (s t : List Event) → stored k s ≡ false → needed k (s ++ read k ∷ t) ≡ true
+  needed_split [] t h = rw (eq-eqb k k refl)
+  needed_split (e ∷ s) t h = go (stores_at k e) refl h (λ g. needed_split s t g)
     where
       go : (b : Bool) → stores_at k e ≡ b → (b || stored k s) ≡ false → (stored k s ≡ false → needed k (s ++ read k ∷ t) ≡ true)
           → needed k (e ∷ s ++ read k ∷ t) ≡ true
@@ -63,7 +63,7 @@ module _ (k : ℕ) where
       go false q h more = rw (q, more h, or-true)
 
   pub needed_means : (t : List Event) → (needed k t ≡ true) ↔ ReadFirst k t
-  needed_means t = (needs t, λ n. rw n.split (needed-split n.before n.after n.first))
+  needed_means t = (needs t, λ n. rw n.split (needed_split n.before n.after n.first))
 
 -- a world whose maps are clear
 pub record Fresh (w : World) : Type 0 where

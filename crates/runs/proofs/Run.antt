@@ -60,15 +60,15 @@ pub record Agreed {W R : Type 0} (Alike : W → W → Type 0) (o q : Outcome W R
 module _ {Regs W : Type 0} (turn : Regs → W → Outcome W (Progress Regs)) (Within : W → Type 0) (Alike : W → W → Type 0)
     (back : (r : Regs) (w : W) → Within (turn r w).left → Within w)
     (both : (r : Regs) (v w : W) → Alike v w → Within (turn r v).left → Agreed Alike (turn r v) (turn r w)) where
-  run-back : (n : ℕ) (r : Regs) (w : W) → Within (run turn n r w).left → Within w
-  run-back = run_keeps turn (λ v w. Within w → Within v) (λ w h. h) (λ u v w f g h. f (g h)) back
+  run_back : (n : ℕ) (r : Regs) (w : W) → Within (run turn n r w).left → Within w
+  run_back = run_keeps turn (λ v w. Within w → Within v) (λ w h. h) (λ u v w f g h. f (g h)) back
 
   pub run_both : (n : ℕ) (r : Regs) (v w : W) → Alike v w → Within (run turn n r v).left → Agreed Alike (run turn n r v) (run turn n r w)
   unfolding run
   run_both zero r v w s h = record { result = refl; left = s }
   run_both (suc n) r v w s h =
       let o = turn r v in let u = (turn r w).left in
-      let a = both r v w s (run-back n o.result.regs o.left h) in
+      let a = both r v w s (run_back n o.result.regs o.left h) in
       let more = run_both n o.result.regs o.left u a.left h in
       rw (← a.result) (record { result = rw more.result; left = more.left })
 

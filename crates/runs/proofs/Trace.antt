@@ -75,9 +75,9 @@ law false false false true n = refl
 law false false false false n = refl
 
 module _ (k : ℕ) (h : k < 65536) where
-  writes-effect : (e : Event) (w : World) → Sized w → is_marked (effect e w).writes k ≡ (stores_at k e || is_marked w.writes k)
-  writes-effect (read a) w s = refl
-  writes-effect (store a byte) w s = marked_is w.writes a k s.writes h
+  writes_effect : (e : Event) (w : World) → Sized w → is_marked (effect e w).writes k ≡ (stores_at k e || is_marked w.writes k)
+  writes_effect (read a) w s = refl
+  writes_effect (store a byte) w s = marked_is w.writes a k s.writes h
 
   pub reads_effect : (e : Event) (w : World) → Sized w
       → is_marked (effect e w).reads k ≡ (is_marked w.reads k || reads_at k e && not (is_marked w.writes k))
@@ -95,13 +95,13 @@ module _ (k : ℕ) (h : k < 65536) where
   writes_replay [] w s = rw or-false
   writes_replay (e ∷ t) w s =
       writes_replay t (effect e w) (sized_effect e w s)
-      ∙ rw (writes-effect e w s, or_comm (stores_at k e) (is_marked w.writes k), or_assoc)
+      ∙ rw (writes_effect e w s, or_comm (stores_at k e) (is_marked w.writes k), or_assoc)
 
   pub reads_replay : (t : List Event) (w : World) → Sized w
       → is_marked (replay t w).reads k ≡ (is_marked w.reads k || not (is_marked w.writes k) && needed k t)
   reads_replay [] w s = rw (and-false, or-false)
   reads_replay (e ∷ t) w s =
-      reads_replay t (effect e w) (sized_effect e w s) ∙ rw (writes-effect e w s, reads_effect e w s, law)
+      reads_replay t (effect e w) (sized_effect e w s) ∙ rw (writes_effect e w s, reads_effect e w s, law)
 
 -- ---- the maps have no part in it
 

@@ -28,14 +28,14 @@ module _ (memory writes : List ℕ) where
       let nine = length_fetched 9 at writes map in
       length_either (slice_index memory at % 2 == 1) _ _ nine (length_blocks n ((at + 9) % 65536) _ ∙ nine)
 
-  length-sample : (directory number : ℕ) (map : List ℕ) → length (sample directory number memory writes map) ≡ length map
+  length_sample : (directory number : ℕ) (map : List ℕ) → length (sample directory number memory writes map) ≡ length map
   unfolding sample
-  length-sample directory number map = length_blocks 65536 _ _ ∙ length_blocks 65536 _ _ ∙ length_fetched 4 _ writes map
+  length_sample directory number map = length_blocks 65536 _ _ ∙ length_blocks 65536 _ _ ∙ length_fetched 4 _ writes map
 
   -- of a voice, whose bit is set or not
   pub length_voice : (directory number : ℕ) (b : Bool) (map : List ℕ)
       → length (cond b (sample directory number memory writes map) map) ≡ length map
-  length_voice directory number b map = length_either b _ _ (length-sample directory number map) refl
+  length_voice directory number b map = length_either b _ _ (length_sample directory number map) refl
 
   pub length_voices : (chip : List ℕ) (n voice bits : ℕ) (map : List ℕ) → length (voices n voice bits chip memory writes map) ≡ length map
   unfolding voices

@@ -127,24 +127,24 @@ module _ (cpu : Processor) (memory file : List ℕ) where
   pub laid_length : length (laid cpu memory file) ≡ length file
   laid_length = length-sets (sets file 37 (record_bytes cpu)) 256 memory ∙ length-sets file 37 (record_bytes cpu)
 
-  laid-record : length file ≡ 66048 → (i : ℕ) → i < 7 → get_or (laid cpu memory file) (37 + i) 0 ≡ get_or (record_bytes cpu) i 0
+  laid_record : length file ≡ 66048 → (i : ℕ) → i < 7 → get_or (laid cpu memory file) (37 + i) 0 ≡ get_or (record_bytes cpu) i 0
   unfolding record_bytes
-  laid-record whole i h =
+  laid_record whole i h =
       other_place memory (sets file 37 (record_bytes cpu)) 256 (37 + i) (λ j k e. omega arith)
       ∙ stored_place (record_bytes cpu) file 37 i (omega arith) h
 
-  laid-memory : length file ≡ 66048 → length memory ≡ 65536 → (i : ℕ) → i < 65536
+  laid_memory : length file ≡ 66048 → length memory ≡ 65536 → (i : ℕ) → i < 65536
       → get_or (laid cpu memory file) (256 + i) 0 ≡ get_or memory i 0
-  laid-memory whole size i h = stored_place memory (sets file 37 (record_bytes cpu)) 256 i (rw length-sets (omega arith)) (omega arith)
+  laid_memory whole size i h = stored_place memory (sets file 37 (record_bytes cpu)) 256 i (rw length-sets (omega arith)) (omega arith)
 
   -- Accepted, it leaves record and memory in their places.
   pub lays : write_refusal cpu memory file ≡ 0 → write_of cpu memory file ≡ filled 0 (laid cpu memory file)
   lays z = not_refused (write_refusal cpu memory file) (laid cpu memory file) file z
 
   -- what holds of the file as it was, and with record and memory in it where they are accepted, holds of the file that is left
-  of-what-is-left : (P : List ℕ → Type 0) → P file → (write_refusal cpu memory file ≡ 0 → P (laid cpu memory file))
+  of_what_is_left : (P : List ℕ → Type 0) → P file → (write_refusal cpu memory file ≡ 0 → P (laid cpu memory file))
       → P (write_of cpu memory file).left
-  of-what-is-left P as_it_was accepted = go (ℕ_discrete (write_refusal cpu memory file) 0)
+  of_what_is_left P as_it_was accepted = go (ℕ_discrete (write_refusal cpu memory file) 0)
     where
       go : Dec (write_refusal cpu memory file ≡ 0) → P (write_of cpu memory file).left
       go (yes z) = rw (eq-eqb _ _ z) (accepted z)
@@ -152,11 +152,11 @@ module _ (cpu : Processor) (memory file : List ℕ) where
 
   -- Whatever it answers, every other byte of the file stays,
   pub others_stay : (at : ℕ) → (Stored at → ⊥) → get_or (write_of cpu memory file).left at 0 ≡ get_or file at 0
-  others_stay at other = of-what-is-left (λ l. get_or l at 0 ≡ get_or file at 0) refl (λ z. laid_elsewhere (written cpu memory file z).size at other)
+  others_stay at other = of_what_is_left (λ l. get_or l at 0 ≡ get_or file at 0) refl (λ z. laid_elsewhere (written cpu memory file z).size at other)
 
   -- and the file is as long as it was.
   pub same_length : length (write_of cpu memory file).left ≡ length file
-  same_length = of-what-is-left (λ l. length l ≡ length file) refl (λ z. laid_length)
+  same_length = of_what_is_left (λ l. length l ≡ length file) refl (λ z. laid_length)
 
 -- What is laid into two files that agree at all other places leaves the same file.
 pub laid_alike : (cpu : Processor) (memory first second : List ℕ) → length memory ≡ 65536
@@ -171,39 +171,39 @@ laid_alike cpu memory first second size f s alike =
     Same : ℕ → Type 0
     Same at = get_or (laid cpu memory first) at 0 ≡ get_or (laid cpu memory second) at 0
 
-    in-record : (i : ℕ) → i < 7 → Same (37 + i)
-    in-record i h = laid-record cpu memory first f i h ∙ sym (laid-record cpu memory second s i h)
+    in_record : (i : ℕ) → i < 7 → Same (37 + i)
+    in_record i h = laid_record cpu memory first f i h ∙ sym (laid_record cpu memory second s i h)
 
     in_memory : (i : ℕ) → i < 65536 → Same (256 + i)
-    in_memory i h = laid-memory cpu memory first f size i h ∙ sym (laid-memory cpu memory second s size i h)
+    in_memory i h = laid_memory cpu memory first f size i h ∙ sym (laid_memory cpu memory second s size i h)
 
     elsewhere : (at : ℕ) → at < 66048 → (Stored at → ⊥) → Same at
     elsewhere at h other =
         laid_elsewhere cpu memory first size at other ∙ alike at h other ∙ sym (laid_elsewhere cpu memory second size at other)
 
     go : (at : ℕ) → at < 66048 → Dec (Stored at) → Same at
-    go at h (yes (inl p)) = let e : 37 + (at - 37) ≡ at = omega arith in rw e at (in-record (at - 37) (omega arith))
+    go at h (yes (inl p)) = let e : 37 + (at - 37) ≡ at = omega arith in rw e at (in_record (at - 37) (omega arith))
     go at h (yes (inr p)) = let e : 256 + (at - 256) ≡ at = omega arith in rw e at (in_memory (at - 256) (omega arith))
     go at h (no n) = elsewhere at h n
 
 -- ---- both ways round
 
 module _ (file : List ℕ) (bytes : Bytes file) where
-  same-record : sets file 37 (record_bytes (record_in file)) ≡ file
+  same_record : sets file 37 (record_bytes (record_in file)) ≡ file
   unfolding record_bytes record_in
-  same-record =
+  same_record =
       let low : word_of (get_or file 37 0) (get_or file 38 0) % 256 ≡ get_or file 37 0 = omega (arith, bytes 37) in
       let high : word_of (get_or file 37 0) (get_or file 38 0) / 256 ≡ get_or file 38 0 = omega (arith, bytes 37) in
       rw (low, high, byte_to_flags_and_back (get_or file 42 0) (bytes 42)) (standing_stays 7 37 file)
 
   -- A file's own record and memory, laid into it, change nothing.
   pub same_file : Accepted file → laid (record_in file) (memory_in file) file ≡ file
-  same_file a = rw same-record (stored_again 65536 file 256 (omega (arith, a.size)))
+  same_file a = rw same_record (stored_again 65536 file 256 (omega (arith, a.size)))
 
   -- What a file gives can be written into it,
-  own-record : Accepted file → Writable (record_in file) (memory_in file) file
+  own_record : Accepted file → Writable (record_in file) (memory_in file) file
   unfolding record_in
-  own-record a = record { accepted = a; size = memory_size a; awake = refl }
+  own_record a = record { accepted = a; size = memory_size a; awake = refl }
 
   -- Reading a file and then writing into it what was read changes nothing; a file that is refused is refused both times, with one number.
   pub read_then_write : write_of (read_of file).cpu (memory_of file) file ≡ filled (refusal_of file) file
@@ -213,7 +213,7 @@ module _ (file : List ℕ) (bytes : Bytes file) where
       go (yes z) =
           ap (λ (f : FileRead). write_of f.cpu (memory_of file) file) (gives_record file z)
           ∙ ap (λ (m : List ℕ). write_of (record_in file) m file) (gives_part file z)
-          ∙ lays (record_in file) (memory_in file) file (writes (record_in file) (memory_in file) file (own-record (accepted z)))
+          ∙ lays (record_in file) (memory_in file) file (writes (record_in file) (memory_in file) file (own_record (accepted z)))
           ∙ ap (λ (l : List ℕ). filled 0 l) (same_file (accepted z))
           ∙ ap (λ (n : ℕ). filled n file) (sym z)
       go (no n) = refused_file (read_of file).cpu (memory_of file) file n
@@ -235,8 +235,8 @@ module _ (cpu : Processor) (memory file : List ℕ) where
           ∙ a.begins;
     }
 
-    at-37 : (i : ℕ) → i < 7 → get_or (laid cpu memory file) (37 + i) 0 ≡ get_or (record_bytes cpu) i 0
-    at-37 = laid-record cpu memory file a.size
+    at_37 : (i : ℕ) → i < 7 → get_or (laid cpu memory file) (37 + i) 0 ≡ get_or (record_bytes cpu) i 0
+    at_37 = laid_record cpu memory file a.size
 
     -- in which the record, awake,
     pub same_registers : record_in (laid cpu memory file) ≡ woken cpu
@@ -244,13 +244,13 @@ module _ (cpu : Processor) (memory file : List ℕ) where
     same_registers =
         let word : word_of (cpu.pc % 256) (cpu.pc / 256) ≡ cpu.pc = omega arith in
         rw (
-          at-37 0 (omega arith),
-          at-37 1 (omega arith),
-          at-37 2 (omega arith),
-          at-37 3 (omega arith),
-          at-37 4 (omega arith),
-          at-37 5 (omega arith),
-          at-37 6 (omega arith),
+          at_37 0 (omega arith),
+          at_37 1 (omega arith),
+          at_37 2 (omega arith),
+          at_37 3 (omega arith),
+          at_37 4 (omega arith),
+          at_37 5 (omega arith),
+          at_37 6 (omega arith),
           word,
           flags_to_byte_and_back cpu.psw,
         )
@@ -261,8 +261,8 @@ module _ (cpu : Processor) (memory file : List ℕ) where
         let room : 256 + length memory ≤ length (sets file 37 (record_bytes cpu)) = rw length-sets (omega (arith, a.size, size)) in
         rw size at (stored_part memory (sets file 37 (record_bytes cpu)) 256 room)
 
-    laid-gives-back : GivesBack (woken cpu) memory (laid cpu memory file)
-    laid-gives-back = record {
+    laid_gives_back : GivesBack (woken cpu) memory (laid cpu memory file)
+    laid_gives_back = record {
       read = gives_record (laid cpu memory file) (accepts still_accepted) ∙ ap (λ (c : Processor). file_read 0 c) same_registers;
       part = gives_part (laid cpu memory file) (accepts still_accepted) ∙ same_memory;
     }
@@ -273,4 +273,4 @@ module _ (cpu : Processor) (memory file : List ℕ) where
       let z = sym (answers (write_refusal cpu memory file) (laid cpu memory file) file) ∙ e in
       let w = written cpu memory file z in
       subst (λ (o : Filled ℕ). GivesBack cpu memory o.left) (sym (lays cpu memory file z))
-      (subst (λ (c : Processor). GivesBack c memory (laid cpu memory file)) (woken_again cpu w.awake) (laid-gives-back w.accepted w.size))
+      (subst (λ (c : Processor). GivesBack c memory (laid cpu memory file)) (woken_again cpu w.awake) (laid_gives_back w.accepted w.size))

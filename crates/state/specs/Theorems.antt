@@ -59,9 +59,9 @@ module _ (bytes : List ℕ) where
       go true e whole = (eqb-true _ _ e, whole)
       go false e whole = absurd (true≢false (sym whole))
 
-  first-seven : registers_of (take 7 bytes) ≡ registers_of bytes
+  first_seven : registers_of (take 7 bytes) ≡ registers_of bytes
   unfolding registers_of
-  first-seven =
+  first_seven =
       rw (
         get_or-take 7 bytes 0 0 (omega arith),
         get_or-take 7 bytes 1 0 (omega arith),
@@ -73,9 +73,9 @@ module _ (bytes : List ℕ) where
       )
 
   module _ (small : Bytes bytes) (whole : is_whole bytes ≡ true) where
-    eight-again : whole_bytes_of (with_state (state_of (get_or bytes 7 0)) (registers_of bytes)) ≡ bytes
+    eight_again : whole_bytes_of (with_state (state_of (get_or bytes 7 0)) (registers_of bytes)) ≡ bytes
     unfolding whole_bytes_of bytes_of registers_of
-    eight-again =
+    eight_again =
         let b : ℕ → ℕ = λ i. get_or bytes i 0 in
         let low : word_of (b 4) (b 5) % 256 ≡ b 4 = omega (arith, small 4) in
         let high : word_of (b 4) (b 5) / 256 ≡ b 5 = omega (arith, small 4) in
@@ -87,4 +87,4 @@ module _ (bytes : List ℕ) where
     pub whole_to_record_and_back : whole_bytes_of (whole_of bytes) ≡ bytes
     unfolding whole_of
     whole_to_record_and_back =
-        ap (λ (c : Processor). whole_bytes_of (with_state (state_of (get_or bytes 7 0)) c)) first-seven ∙ eight-again
+        ap (λ (c : Processor). whole_bytes_of (with_state (state_of (get_or bytes 7 0)) c)) first_seven ∙ eight_again

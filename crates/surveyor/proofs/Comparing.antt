@@ -28,9 +28,9 @@ module _ (first second : List ℕ) (has-map : Bool) (map : List ℕ) (pair : Pai
   abbrev row : List ℕ
   row = replicate n 0
 
-  right-lengths : lengths_refusal first second has-map map ≡ 0
+  right_lengths : lengths_refusal first second has-map map ≡ 0
   unfolding lengths_refusal
-  right-lengths = rw (eq-eqb _ _ pair.first_size, eq-eqb _ _ pair.second_size) (go has-map usable.size)
+  right_lengths = rw (eq-eqb _ _ pair.first_size, eq-eqb _ _ pair.second_size) (go has-map usable.size)
     where
       go : (b : Bool) → (b ≡ true → length map ≡ 8192) → ◌≡◌ {A = ℕ} (cond b (cond (eqb (length map) 8192) 0 2) 0) 0
       go true right = rw (eq-eqb _ _ (right refl))
@@ -41,26 +41,26 @@ module _ (first second : List ℕ) (has-map : Bool) (map : List ℕ) (pair : Pai
     stretches = stretches_of first second
 
     all_told : filled found left ≡ filled (accepted stretches (marks_of has-map map)) (written stretches row)
-    all_told = is ∙ rw (eq-eqb _ _ (room_enough first second has-map map row right-lengths (rw length-replicate (omega arith))))
+    all_told = is ∙ rw (eq-eqb _ _ (room_enough first second has-map map row right_lengths (rw length-replicate (omega arith))))
 
-    how-many : found ≡ accepted stretches (marks_of has-map map)
-    how-many = ap (λ (f : Filled Differences). f.answer) all_told
+    how_many : found ≡ accepted stretches (marks_of has-map map)
+    how_many = ap (λ (f : Filled Differences). f.answer) all_told
 
     in_row : left ≡ written stretches row
     in_row = ap (λ (f : Filled Differences). f.left) all_told
 
     pub few_numbers : 2 * found.stretches ≤ 65536
-    few_numbers = rw how-many (omega (arith, few first second))
+    few_numbers = rw how_many (omega (arith, few first second))
 
     pub within_row : 2 * found.stretches ≤ length left
     unfolding written
-    within_row = rw (how-many, in_row, length-append, length_numbers stretches, length-drop) (omega arith)
+    within_row = rw (how_many, in_row, length-append, length_numbers stretches, length-drop) (omega arith)
 
-    numbers-first : take (2 * found.stretches) left ≡ numbers_of stretches
+    numbers_first : take (2 * found.stretches) left ≡ numbers_of stretches
     unfolding written
-    numbers-first = rw (how-many, in_row) (take_at (numbers_of stretches) (drop (2 * length stretches) row) _ (length_numbers stretches))
+    numbers_first = rw (how_many, in_row) (take_at (numbers_of stretches) (drop (2 * length stretches) row) _ (length_numbers stretches))
 
     pub given_compared : {before after : List ℕ} {r : Written}
         → Given (says (cond found.touched 1 0 ∷ in_bytes (take (2 * found.stretches) left))) before after r
         → Given (says (compared (marks_of has-map map) first second)) before after r
-    given_compared g = rw (numbers-first, how-many) at g
+    given_compared g = rw (numbers_first, how_many) at g

@@ -43,8 +43,8 @@ module _ (row : List ℕ) (numbers : ℕ) where
   begin_give h room = record { within = omega arith; short = h; room = room; size = refl; same = refl }
 
   module _ (lent out : List ℕ) {i : ℕ} (g : Giving lent out i) where
-    size-given : length given ≡ numbers
-    size-given = length-take-le numbers row g.short
+    size_given : length given ≡ numbers
+    size_given = length-take-le numbers row g.short
 
     pub first_place : i < numbers → 2 * i + 1 < length out
     first_place h = omega (arith, g.room, g.size)
@@ -56,7 +56,7 @@ module _ (row : List ℕ) (numbers : ℕ) where
         → Giving lent (set (set out (2 * i + 1) (get_or row i 0 % 256)) (2 * i + 2) (get_or row i 0 / 256)) (i + 1)
     unfolding in_bytes
     one_given h =
-        let next = drop-cons given i 0 (omega (arith, size-given)) in
+        let next = drop-cons given i 0 (omega (arith, size_given)) in
         let two : 2 * i + 2 ≡ suc (2 * i + 1) = omega arith in
         let three : 2 * (i + 1) + 1 ≡ suc (suc (2 * i + 1)) = omega arith in
         let one : i + 1 ≡ suc i = omega arith in
@@ -68,9 +68,9 @@ module _ (row : List ℕ) (numbers : ℕ) where
           same = rw (three, two, one, ← get_or-take numbers row i 0 h) (rw next at g.same);
         }
 
-    all-given : numbers ≤ i → out ≡ sets lent 1 (in_bytes given)
+    all_given : numbers ≤ i → out ≡ sets lent 1 (in_bytes given)
     unfolding in_bytes
-    all-given h = rw (drop_of_length-le given {i = i} (omega (arith, size-given))) at g.same
+    all_given h = rw (drop_of_length-le given {i = i} (omega (arith, size_given))) at g.same
 
   -- ---- what the call gives
 
@@ -79,18 +79,18 @@ module _ (row : List ℕ) (numbers : ℕ) where
     abbrev told : List ℕ
     told = cond touch 1 0 ∷ in_bytes given
 
-    size-told : length told ≡ 2 * numbers + 1
-    size-told = omega (arith, length_bytes given, length-take-le numbers row short)
+    size_told : length told ≡ 2 * numbers + 1
+    size_told = omega (arith, length_bytes given, length-take-le numbers row short)
 
     pub no_room : length before < 2 * numbers + 1 → Given (says told) before before (refused 3)
-    no_room h = let less = lt-leb (length told) (length before) (omega (arith, size-told)) in record { answer = rw less; buffer = rw less }
+    no_room h = let less = lt-leb (length told) (length before) (omega (arith, size_told)) in record { answer = rw less; buffer = rw less }
 
     pub room_for_all : {out : List ℕ} {i : ℕ} → 2 * numbers + 1 ≤ length before → Giving (set before 0 (bool_byte touch)) out i → numbers ≤ i
         → Given (says told) before out (accepted (2 * numbers + 1))
     room_for_all {out} h g e =
-        let fits = le-leb (length told) (length before) (omega (arith, size-told)) in
-        let all : out ≡ sets before 0 told = rw (← one_or_zero touch) (all-given (set before 0 (bool_byte touch)) out g e) in
+        let fits = le-leb (length told) (length before) (omega (arith, size_told)) in
+        let all : out ≡ sets before 0 told = rw (← one_or_zero touch) (all_given (set before 0 (bool_byte touch)) out g e) in
         record {
-          answer = rw (fits, size-told);
-          buffer = rw fits (all ∙ sets-eq told before 0 (omega (arith, size-told)) ∙ rw zero-add);
+          answer = rw (fits, size_told);
+          buffer = rw fits (all ∙ sets-eq told before 0 (omega (arith, size_told)) ∙ rw zero-add);
         }

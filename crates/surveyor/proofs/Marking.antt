@@ -25,12 +25,12 @@ no_touch map (s ∷ rest) = rw (← no_map false map refl s.first (suc s.last)) 
 
 module _ (map : List ℕ) (size : length map ≡ 8192) (n : ℕ) (all : n ≡ 65536)
     {blanked : Blanked} {first : List ℕ} (is : filled blanked first ≡ blank_of map 1 (replicate n 0)) where
-  first-blanked : first ≡ zeros map n
-  first-blanked = ap (λ (f : Filled Blanked). f.left) (is ∙ not_refused map 1 (replicate n 0) size (length-replicate n 0 ∙ all))
+  first_blanked : first ≡ zeros map n
+  first_blanked = ap (λ (f : Filled Blanked). f.left) (is ∙ not_refused map 1 (replicate n 0) size (length-replicate n 0 ∙ all))
 
-  marks-found : stretches_of first (ones n) ≡ marked_stretches map
-  marks-found = rw first-blanked (sym (as_memories map n all))
+  marks_found : stretches_of first (ones n) ≡ marked_stretches map
+  marks_found = rw first_blanked (sym (as_memories map n all))
 
   pub given_marks : {before after : List ℕ} {r : Written} → Given (says (compared (marks_of false map) first (ones n))) before after r
       → Given (says (of_map map)) before after r
-  given_marks g = rw (no_touch map (stretches_of first (ones n)), marks-found) at g
+  given_marks g = rw (no_touch map (stretches_of first (ones n)), marks_found) at g

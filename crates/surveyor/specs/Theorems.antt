@@ -87,8 +87,8 @@ module _ (map : List ℕ) where
           unmarked = sym (differ_as_marked map n all gap.address inside) ∙ rw (eq-eqb _ _ gap.equal);
         }
 
-    not-many : length (marked_stretches map) ≤ 32768
-    not-many = rw (as_memories map n all) (few (zeros map n) (ones n))
+    not_many : length (marked_stretches map) ≤ 32768
+    not_many = rw (as_memories map n all) (few (zeros map n) (ones n))
 
   -- They are the maximal ones, from the first address on: differences/specs/Maximal says what that is;
   pub all_maximal : MaximalFrom (is_marked map) 0 (marked_stretches map)
@@ -114,7 +114,7 @@ module _ (map : List ℕ) where
 
   -- There are at most 32,768.
   pub at_most : length (marked_stretches map) ≤ 32768
-  at_most = not-many 65536 refl
+  at_most = not_many 65536 refl
 
 -- ---- what the bytes tell
 
@@ -185,11 +185,11 @@ differences_short touch first second = answer_short touch (stretches_of first se
 each_short : (input : List ℕ) → Short (survey_of input)
 unfolding survey_of
 each_short input =
-    either_short (eqb (length input) 8192) of_map
+    either_short (eqb (length input) 8192) of-map
     (either_short (eqb (length input) 131072) of-memories (either_short (eqb (length input) 139264) of-all refused))
   where
-    of_map : Short (of_map input)
-    of_map = answer_short false (marked_stretches input) (at_most input)
+    of-map : Short (of_map input)
+    of-map = answer_short false (marked_stretches input) (at_most input)
 
     of-memories : Short (of_memories input)
     of-memories = differences_short false (take 65536 input) (drop 65536 input)

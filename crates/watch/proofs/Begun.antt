@@ -29,9 +29,9 @@ in_edition number w z = go (is_edition number) _ z
     go false n z = absurd (omega arith)
 
 module _ (number : ℕ) (cpu : Processor) (w : World) {begun : Ran} {after : World} (e : outcome begun after ≡ run_answer number 0 cpu w) where
-  as-refused : begun.refusal ≡ refusal_of number w
+  as_refused : begun.refusal ≡ refusal_of number w
   unfolding run
-  as-refused =
+  as_refused =
       elim (ℕ_discrete (refusal_of number w) 0) [
         | yes z ↦ ap (λ (o : Outcome World Ran). o.result.refusal) e ∙ rw (eq-eqb _ _ z, z)
         | no n ↦ ap (λ (o : Outcome World Ran). o.result.refusal) e ∙ rw (ne_eqb _ _ n)
@@ -40,13 +40,13 @@ module _ (number : ℕ) (cpu : Processor) (w : World) {begun : Ran} {after : Wor
   -- refused
   pub refused : (budget : ℕ) → (begun.refusal ≡ 0 → ⊥) → outcome (watched begun 0) after ≡ watched_run number budget cpu w
   refused budget n =
-      let other = ne_eqb _ _ (λ z. n (as-refused ∙ z)) in
+      let other = ne_eqb _ _ (λ z. n (as_refused ∙ z)) in
       rw other (ap (λ (o : Outcome World Ran). outcome (watched o.result 0) o.left) (rw other at e))
 
   -- accepted: nothing was done yet
   module _ (z : begun.refusal ≡ 0) where
     accepted : refusal_of number w ≡ 0
-    accepted = sym as-refused ∙ z
+    accepted = sym as_refused ∙ z
 
     rested : outcome begun after ≡ outcome (ran 0 cpu 0 (number_of cpu.state)) w
     unfolding run

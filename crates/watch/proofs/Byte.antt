@@ -49,8 +49,8 @@ touches i [] b = b
 touches i (e ∷ t) b = touches i t (touch i e b)
 
 module _ (i : ℕ) (h : i < 8192) where
-  touch-effect : (e : Event) (w : World) → Sized w → byte_of i (effect e w) ≡ touch i e (byte_of i w)
-  touch-effect (read a) w s = go (ℕ_discrete i (a / 8)) (is_marked w.writes a) refl
+  touch_effect : (e : Event) (w : World) → Sized w → byte_of i (effect e w) ≡ touch i e (byte_of i w)
+  touch_effect (read a) w s = go (ℕ_discrete i (a / 8)) (is_marked w.writes a) refl
     where
       go : Dec (i ≡ a / 8) → (b : Bool) → is_marked w.writes a ≡ b
           → both (get_or (cond b w.reads (marked w.reads a)) i 0) (get_or w.writes i 0) ≡ touch i (read a) (byte_of i w)
@@ -58,15 +58,15 @@ module _ (i : ℕ) (h : i < 8192) where
       go (yes q) false e = rw (q, eq-eqb (a / 8) (a / 8) refl, e, get_or-set_same w.reads (a / 8) _ 0 (omega arith))
       go (no q) true e = rw (ne_eqb (a / 8) i (λ r. q (sym r)))
       go (no q) false e = rw (ne_eqb (a / 8) i (λ r. q (sym r)), get_or-set_other w.reads (a / 8) i _ 0 q)
-  touch-effect (store a x) w s = go (ℕ_discrete i (a / 8))
+  touch_effect (store a x) w s = go (ℕ_discrete i (a / 8))
     where
       go : Dec (i ≡ a / 8) → both (get_or w.reads i 0) (get_or (marked w.writes a) i 0) ≡ touch i (store a x) (byte_of i w)
       go (yes q) = rw (q, eq-eqb (a / 8) (a / 8) refl, get_or-set_same w.writes (a / 8) _ 0 (omega arith))
       go (no q) = rw (ne_eqb (a / 8) i (λ r. q (sym r)), get_or-set_other w.writes (a / 8) i _ 0 q)
 
-  touches-replay : (t : List Event) (w : World) → Sized w → byte_of i (replay t w) ≡ touches i t (byte_of i w)
-  touches-replay [] w s = refl
-  touches-replay (e ∷ t) w s = touches-replay t (effect e w) (sized_effect e w s) ∙ ap (touches i t) (touch-effect e w s)
+  touches_replay : (t : List Event) (w : World) → Sized w → byte_of i (replay t w) ≡ touches i t (byte_of i w)
+  touches_replay [] w s = refl
+  touches_replay (e ∷ t) w s = touches_replay t (effect e w) (sized_effect e w s) ∙ ap (touches i t) (touch_effect e w s)
 
 -- ---- from a byte of zero to any other
 
@@ -85,34 +85,34 @@ read_over old new less one false true e = refl
 read_over old new less one false false e = rw (and_or, e, or_assoc)
 
 module _ (i : ℕ) (before : Both) (h : before.stored < 256) where
-  read-in-over : (j : ℕ) → j < 8 → (b : Both) → read_in j (over before b) ≡ over before (read_in j b)
-  read-in-over j g b =
+  read_in_over : (j : ℕ) → j < 8 → (b : Both) → read_in j (over before b) ≡ over before (read_in j b)
+  read_in_over j g b =
       rw (either_bit before.stored b.stored j)
       (ap (λ (n : ℕ). both n (bit_or before.stored b.stored))
       (read_over before.read b.read (255 - before.stored) (2 ^ j) (is_set before.stored j) (is_set b.stored j)
       (less_bits before.stored j h g)))
 
-  touch-over : (e : Event) (b : Both) → touch i e (over before b) ≡ over before (touch i e b)
-  touch-over (read a) b = go (eqb (a / 8) i)
+  touch_over : (e : Event) (b : Both) → touch i e (over before b) ≡ over before (touch i e b)
+  touch_over (read a) b = go (eqb (a / 8) i)
     where
       go : (c : Bool) → cond c (read_in (a % 8) (over before b)) (over before b) ≡ over before (cond c (read_in (a % 8) b) b)
-      go true = read-in-over (a % 8) (omega arith) b
+      go true = read_in_over (a % 8) (omega arith) b
       go false = refl
-  touch-over (store a x) b = go (eqb (a / 8) i)
+  touch_over (store a x) b = go (eqb (a / 8) i)
     where
       go : (c : Bool) → cond c (stored_in (a % 8) (over before b)) (over before b) ≡ over before (cond c (stored_in (a % 8) b) b)
       go true = rw or_assoc
       go false = refl
 
-  touches-over : (t : List Event) (b : Both) → touches i t (over before b) ≡ over before (touches i t b)
-  touches-over [] b = refl
-  touches-over (e ∷ t) b = rw touch-over (touches-over t (touch i e b))
+  touches_over : (t : List Event) (b : Both) → touches i t (over before b) ≡ over before (touches i t b)
+  touches_over [] b = refl
+  touches_over (e ∷ t) b = rw touch_over (touches_over t (touch i e b))
 
 -- ---- the accesses of a step
 
 module _ {R : Type 0} (p : Access R) (i : ℕ) (h : i < 8192) (v w : World) (s : Sized v) (t : Sized w) (e : v.memory ≡ w.memory) where
   through : (u : World) → Sized u → events p u ≡ events p w → byte_of i (perform p u).left ≡ touches i (events p w) (byte_of i u)
-  through u sized same = rw (replays, ← same) (touches-replay i h (events p u) u sized)
+  through u sized same = rw (replays, ← same) (touches_replay i h (events p u) u sized)
 
   -- the same byte before, and so the same byte after
   pub same_byte : byte_of i v ≡ byte_of i w → byte_of i (perform p v).left ≡ byte_of i (perform p w).left
@@ -124,7 +124,7 @@ module _ {R : Type 0} (p : Access R) (i : ℕ) (h : i < 8192) (v w : World) (s :
   put_over q below =
       through w t refl
       ∙ ap (touches i (events p w)) start
-      ∙ touches-over i (byte_of i w) below (events p w) (both 0 0)
+      ∙ touches_over i (byte_of i w) below (events p w) (both 0 0)
       ∙ ap (over (byte_of i w)) (ap (touches i (events p w)) (sym q) ∙ sym (through v s (perform_unmapped p v w e).1))
     where
       start : byte_of i w ≡ over (byte_of i w) (both 0 0)

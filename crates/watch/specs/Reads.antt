@@ -84,17 +84,17 @@ module _ (k : ℕ) where
   at_once : (a : ℕ) (t : List Event) → a ≡ k → ReadFirst k (read a ∷ t)
   at_once a t e = record { before = []; after = t; split = ap (λ (x : ℕ). read x ∷ t) e; first = refl }
 
-  early-read : (a : ℕ) (t : List Event) → Early t → Early (read a ∷ t)
-  early-read a t early (inl e) = at_once a t e
-  early-read a t early (inr h) = later (read a) refl (early h)
+  early_read : (a : ℕ) (t : List Event) → Early t → Early (read a ∷ t)
+  early_read a t early (inl e) = at_once a t e
+  early_read a t early (inr h) = later (read a) refl (early h)
 
   -- an address that is read, and then stored to
-  early-update : (a byte : ℕ) (t : List Event) → Early t → Early (read a ∷ store a byte ∷ t)
-  early-update a byte t early = go (eqb a k) refl
+  early_update : (a byte : ℕ) (t : List Event) → Early t → Early (read a ∷ store a byte ∷ t)
+  early_update a byte t early = go (eqb a k) refl
     where
       go : (b : Bool) → eqb a k ≡ b → Early (read a ∷ store a byte ∷ t)
       go true q = λ _. at_once a (store a byte ∷ t) (eqb-true a k q)
-      go false q = early-read a (store a byte ∷ t) (λ h. later (store a byte) q (early h))
+      go false q = early_read a (store a byte ∷ t) (λ h. later (store a byte) q (early h))
 
   -- accesses with all reads first
   none_read : {R : Type 0} (p : Access R) (w : World) → OnlyStores p → Has (events p w) → ⊥
@@ -103,42 +103,42 @@ module _ (k : ℕ) where
   none_read (read_at a p) w o h = o
   none_read (store_at a byte p) w o h = none_read p (kept a byte w) o h
 
-  early-accesses : {R : Type 0} (p : Access R) (w : World) → ReadsFirst p → Early (events p w)
+  early_accesses : {R : Type 0} (p : Access R) (w : World) → ReadsFirst p → Early (events p w)
   unfolding events
-  early-accesses (done x) w f = λ h. absurd h
-  early-accesses (read_at a p) w f = early-read a _ (early-accesses (p (byte_at a w)) (seen a w) (f (byte_at a w)))
-  early-accesses (store_at a byte p) w f = λ h. absurd (none_read p (kept a byte w) f h)
+  early_accesses (done x) w f = λ h. absurd h
+  early_accesses (read_at a p) w f = early_read a _ (early_accesses (p (byte_at a w)) (seen a w) (f (byte_at a w)))
+  early_accesses (store_at a byte p) w f = λ h. absurd (none_read p (kept a byte w) f h)
 
   module _ (edition : Edition) (cpu : Processor) where
     -- DBNZ d,rel stores before it reads its displacement, but where it stores it has just read.
-    early-dbnz : (w : World) → Early (events (after_opcode edition cpu 0x6E) w)
+    early_dbnz : (w : World) → Early (events (after_opcode edition cpu 0x6E) w)
     unfolding events then read_for rows gather_of direct fetch loaded effect_of finish_of commit_of
-    early-dbnz w = early-read _ _ (early-update _ _ _ (early-accesses (branch_of _ _) _ (branch_reads _ _)))
+    early_dbnz w = early_read _ _ (early_update _ _ _ (early_accesses (branch_of _ _) _ (branch_reads _ _)))
 
-    early-after : (opcode : ℕ) (w : World) → opcode < 256 → Early (events (after_opcode edition cpu opcode) w)
-    early-after opcode w h = go (ℕ_discrete opcode 0x6E)
+    early_after : (opcode : ℕ) (w : World) → opcode < 256 → Early (events (after_opcode edition cpu opcode) w)
+    early_after opcode w h = go (ℕ_discrete opcode 0x6E)
       where
         go : Dec (opcode ≡ 0x6E) → Early (events (after_opcode edition cpu opcode) w)
-        go (yes e) = rw e (early-dbnz w)
-        go (no n) = early-accesses (after_opcode edition cpu opcode) w (reads_first edition cpu opcode h n)
+        go (yes e) = rw e (early_dbnz w)
+        go (no n) = early_accesses (after_opcode edition cpu opcode) w (reads_first edition cpu opcode h n)
 
-    early-step : (w : World) → Bytes w → Early (events (step_of edition cpu) w)
+    early_step : (w : World) → Bytes w → Early (events (step_of edition cpu) w)
     unfolding events
-    early-step w bytes =
-        let at = cpu.pc in rw opcode_first (early-read at _ (early-after (byte_at at w) (seen at w) (bytes.below at)))
+    early_step w bytes =
+        let at = cpu.pc in rw opcode_first (early_read at _ (early_after (byte_at at w) (seen at w) (bytes.below at)))
 
-    early-counted : (w : World) → Bytes w → Early (events (counted_step edition cpu) w)
+    early_counted : (w : World) → Bytes w → Early (events (counted_step edition cpu) w)
     unfolding counted_step events
-    early-counted w bytes = go (is_awake cpu.state) refl
+    early_counted w bytes = go (is_awake cpu.state) refl
       where
         go : (b : Bool) → is_awake cpu.state ≡ b → Early (events (counted_step edition cpu) w)
-        go true e = rw (e, events_then (step_of edition cpu) (λ next. progress next 1) w) (early-step w bytes)
+        go true e = rw (e, events_then (step_of edition cpu) (λ next. progress next 1) w) (early_step w bytes)
         go false e = rw e (λ h. absurd h)
 
 -- A step of either edition, on a memory of bytes, that reads an address at some place reads it before it stores there.
 pub read_is_first : (edition : Edition) (cpu : Processor) (w : World) (k : ℕ) → Bytes w
     → ReadIn k (events (counted_step edition cpu) w) → ReadFirst k (events (counted_step edition cpu) w)
-read_is_first edition cpu w k bytes r = early-counted k edition cpu w bytes (has k r)
+read_is_first edition cpu w k bytes r = early_counted k edition cpu w bytes (has k r)
 
 -- ---- a run
 
@@ -150,10 +150,10 @@ pub record SomeStepReadsAtAll (edition : Edition) (budget : ℕ) (cpu : Processo
 
 module _ (edition : Edition) where
   -- A step, taken or not, leaves a memory of bytes and registers in their widths.
-  counted-widths : (cpu : Processor) (w : World) → Fits cpu → Bytes w
+  counted_widths : (cpu : Processor) (w : World) → Fits cpu → Bytes w
       → let o = perform (counted_step edition cpu) w in Fits o.result.regs × Bytes o.left
   unfolding counted_step perform
-  counted-widths cpu w fits bytes = go (is_awake cpu.state) refl
+  counted_widths cpu w fits bytes = go (is_awake cpu.state) refl
     where
       go : (b : Bool) → is_awake cpu.state ≡ b
           → let o = perform (counted_step edition cpu) w in Fits o.result.regs × Bytes o.left
@@ -161,12 +161,12 @@ module _ (edition : Edition) where
       go false e = rw e (fits, bytes)
 
   -- So every step of a run finds a memory of bytes.
-  run-bytes : (n : ℕ) (cpu : Processor) (w : World) → Fits cpu → Bytes w → Bytes (run_of edition n cpu w).left
+  run_bytes : (n : ℕ) (cpu : Processor) (w : World) → Fits cpu → Bytes w → Bytes (run_of edition n cpu w).left
   unfolding run
-  run-bytes zero cpu w fits bytes = bytes
-  run-bytes (suc n) cpu w fits bytes =
-      let o = perform (counted_step edition cpu) w in let one = counted-widths cpu w fits bytes in
-      run-bytes n o.result.regs o.left one.0 one.1
+  run_bytes zero cpu w fits bytes = bytes
+  run_bytes (suc n) cpu w fits bytes =
+      let o = perform (counted_step edition cpu) w in let one = counted_widths cpu w fits bytes in
+      run_bytes n o.result.regs o.left one.0 one.1
 
   -- On memory and maps of the right lengths, where memory holds bytes, and from registers in their widths, the bit of value 2^j, of the
   -- sixteen, is set exactly when some step of the run reads 00F0 + j, at any place of the step and whatever was stored before.
@@ -184,5 +184,5 @@ module _ (edition : Edition) where
       first s = record {
         before = s.before;
         within = s.within;
-        reads = read_is_first edition _ _ (240 + j) (run-bytes s.before cpu w fits bytes) s.reads;
+        reads = read_is_first edition _ _ (240 + j) (run_bytes s.before cpu w fits bytes) s.reads;
       }

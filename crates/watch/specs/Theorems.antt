@@ -95,9 +95,9 @@ module _ (edition : Edition) (cpu : Processor) (w : World) (size : Sized w) wher
       rw (run_one, append-nil, (perform_unmapped (counted_step edition cpu) start w refl).1) at
       (reads_exact (counted_step edition) 1 cpu start (fresh w.memory 8192 size.memory refl) k h)
 
-  step-told : (j : ℕ) → j < 16
+  step_told : (j : ℕ) → j < 16
       → (is_set (devices_of (alone edition cpu w.memory).left.reads) j ≡ true) ↔ ReadFirst (240 + j) (events (counted_step edition cpu) w)
-  step-told j h = rw (bit_is_mark (alone edition cpu w.memory).left.reads j alone_bytes h) (mark_told (240 + j) (omega arith))
+  step_told j h = rw (bit_is_mark (alone edition cpu w.memory).left.reads j alone_bytes h) (mark_told (240 + j) (omega arith))
 
 -- ---- a run
 
@@ -125,7 +125,7 @@ module _ (edition : Edition) (j : ℕ) (h : j < 16) where
           → (is_set (devices_read edition n o.result.regs o.left.memory) j ≡ true
           → SomeStepReads edition n o.result.regs o.left (240 + j))
           → SomeStepReads edition (suc n) cpu w (240 + j)
-      go true q e later = record { before = 0; within = omega arith; reads = (step-told edition cpu w size j h).0 q }
+      go true q e later = record { before = 0; within = omega arith; reads = (step_told edition cpu w size j h).0 q }
       go false q e later = let s = later e in record { before = suc s.before; within = omega (arith, s.within); reads = s.reads }
 
   shown : (budget : ℕ) (cpu : Processor) (w : World) → Sized w → (before : ℕ) → before < budget
@@ -133,7 +133,7 @@ module _ (edition : Edition) (j : ℕ) (h : j < 16) where
       → is_set (devices_read edition budget cpu w.memory) j ≡ true
   unfolding devices_read run
   shown zero cpu w size before within reads = absurd (omega arith)
-  shown (suc n) cpu w size zero within reads = rw (either_bit, (step-told edition cpu w size j h).1 reads)
+  shown (suc n) cpu w size zero within reads = rw (either_bit, (step_told edition cpu w size j h).1 reads)
   shown (suc n) cpu w size (suc before) within reads =
       let o = perform (counted_step edition cpu) w in
       let one = (perform_unmapped (counted_step edition cpu) (world w.memory clear clear) w refl).0 in

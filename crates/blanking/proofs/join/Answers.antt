@@ -25,8 +25,8 @@ next_byte (a ∷ map) (b ∷ before) zero h e = refl
 next_byte (a ∷ map) (b ∷ before) (suc i) h e = ap (λ (l : List ℕ). bit_or a b ∷ l) (next_byte map before i (omega arith) (omega arith))
 
 module _ (map before : List ℕ) (as_long : length map ≡ length before) {other : List ℕ} {i : ℕ} (so : SoFar map before other i) where
-  in-other : i < length map → i < length other
-  in-other h = omega (arith, so.size)
+  in_other : i < length map → i < length other
+  in_other h = omega (arith, so.size)
 
   one_more : i < length map → SoFar map before (set other i (bit_or (get_or map i 0) (get_or other i 0))) (i + 1)
   one_more h = record {
@@ -35,8 +35,8 @@ module _ (map before : List ℕ) (as_long : length map ≡ length before) {other
     joined = rw (so.joined, add-one) (next_byte map before i h as_long);
   }
 
-  all-joined : length map ≤ i → other ≡ together map before
-  all-joined h = so.joined ∙ rw (take_all i map h)
+  all_joined : length map ≤ i → other ≡ together map before
+  all_joined h = so.joined ∙ rw (take_all i map h)
 
   still : length other ≡ length before
   still = so.size
@@ -45,10 +45,10 @@ pub loop-i-init : goal.loop-i-init
 loop-i-init c = search (rules, begin)
 
 pub bounds-other-i : goal.bounds-other-i
-bounds-other-i c = search (rules, in-other)
+bounds-other-i c = search (rules, in_other)
 
 pub bounds-other-i-in-loop-i : goal.bounds-other-i-in-loop-i
-bounds-other-i-in-loop-i c = search (rules, in-other)
+bounds-other-i-in-loop-i c = search (rules, in_other)
 
 pub loop-i-preserved : goal.loop-i-preserved
 loop-i-preserved c = search (rules, one_more)
@@ -57,4 +57,4 @@ pub shape_of-other : goal.shape_of-other
 shape_of-other c = search (rules, still)
 
 pub returns : goal.returns
-returns c = search (rules, all-joined)
+returns c = search (rules, all_joined)

@@ -11,11 +11,8 @@ use lib.Seq.{drop-cons}
 use borrow.Author.Rules.{rules}
 use borrow.Author.Tests.{eq-eqb, ne_eqb}
 use Rattle.boot_rom.specs.Inside.{any_marked}
+use Rattle.boot_rom.proofs.any_marked.Invariants.{SoFar}
 use Rattle.boot_rom.proofs.any_marked.Goals as goal
-
-record SoFar (map : List ℕ) (i : ℕ) : Type 0 where
-  within : i ≤ length map
-  unmarked : any_marked (drop 8184 map) ≡ any_marked (drop i map)
 
 module _ (map : List ℕ) (size : length map ≡ 8192) where
   begun : SoFar map 8184

@@ -13,6 +13,10 @@ use borrow.Author.Tests.{eq-eqb, ne_eqb}
 use Rattle.boot_rom.specs.Inside.{any_marked}
 use Rattle.boot_rom.proofs.any_marked.Given as goal
 
+pub record SoFar (map : List ℕ) (i : ℕ) : Type 0 where
+  pub within : i ≤ length map
+  pub unmarked : any_marked (drop 8184 map) ≡ any_marked (drop i map)
+
 abbrev pub invariant-loop-i : goal.invariant-loop-i
 invariant-loop-i l = SoFar l.map l.i
 

@@ -12,21 +12,15 @@ use Rattle.boot_rom.specs.Inside.{read_back}
 use Rattle.boot_rom.proofs.Back.{length_back, get_back}
 use Rattle.boot_rom.proofs.Laid.{Laid}
 use Rattle.boot_rom.proofs.Part.{length_last, none_put, one_put, all_put}
+use Rattle.boot_rom.proofs.put_reads_back.Invariants.{back, SoFar}
 use Rattle.boot_rom.proofs.put_reads_back.Goals as goal
 
--- what is put there
-abbrev back : List ℕ → List ℕ → List ℕ → List ℕ
-back map₀ read stored = read_back (drop 8184 map₀) read stored
-
-record SoFar (map₀ read stored map : List ℕ) (i : ℕ) : Type 0 where
-  put : Laid map₀ (take 8184 map₀ ++ back map₀ read stored) map (8184 + i)
-
 module _ (map₀ read stored : List ℕ) (size : length map₀ ≡ 8192) where
-  eight-back : length (back map₀ read stored) ≡ 8
-  eight-back = rw length_back (length_last 8184 8 map₀ size)
+  eight_back : length (back map₀ read stored) ≡ 8
+  eight_back = rw length_back (length_last 8184 8 map₀ size)
 
   begun : SoFar map₀ read stored map₀ 0
-  begun = record { put = none_put 8184 8 map₀ size _ eight-back }
+  begun = record { put = none_put 8184 8 map₀ size _ eight_back }
 
   module _ {map : List ℕ} {i : ℕ} (so : SoFar map₀ read stored map i) where
     in_map : i < 8 → 8184 + i < length map
@@ -39,7 +33,7 @@ module _ (map₀ read stored : List ℕ) (size : length map₀ ≡ 8192) where
         let last = length_last 8184 8 map₀ size in
         let byte = get_back (drop 8184 map₀) read stored i (last ∙ sym e) (last ∙ sym f) (omega arith) in record {
           put =
-              one_put 8184 8 map₀ size _ eight-back so.put _ h
+              one_put 8184 8 map₀ size _ eight_back so.put _ h
               (rw (so.put.ahead (8184 + i) (omega arith), ← get_or-drop 8184 map₀ i 0) (sym byte));
         }
 
@@ -47,7 +41,7 @@ module _ (map₀ read stored : List ℕ) (size : length map₀ ≡ 8192) where
     still = so.put.size
 
     all : 8 ≤ i → map ≡ take 8184 map₀ ++ back map₀ read stored
-    all h = all_put 8184 8 map₀ size _ eight-back so.put h
+    all h = all_put 8184 8 map₀ size _ eight_back so.put h
 
 pub loop-i-init : goal.loop-i-init
 loop-i-init c = search (rules, begun)

@@ -14,6 +14,13 @@ use Rattle.boot_rom.proofs.Laid.{Laid}
 use Rattle.boot_rom.proofs.Part.{length_last, none_put, one_put, all_put}
 use Rattle.boot_rom.proofs.put_reads_back.Given as goal
 
+-- what is put there
+abbrev pub back : List ℕ → List ℕ → List ℕ → List ℕ
+back map₀ read stored = read_back (drop 8184 map₀) read stored
+
+pub record SoFar (map₀ read stored map : List ℕ) (i : ℕ) : Type 0 where
+  pub put : Laid map₀ (take 8184 map₀ ++ back map₀ read stored) map (8184 + i)
+
 abbrev pub invariant-loop-i : goal.invariant-loop-i
 invariant-loop-i l = SoFar l.initial.map l.read l.stored l.map l.i
 

@@ -9,11 +9,8 @@ use lib.Seq.{get_or-drop}
 use borrow.Author.Rules.{rules}
 use Rattle.boot_rom.proofs.Laid.{Laid, none_laid, one_laid, all_laid}
 use Rattle.boot_rom.proofs.Part.{length_last, none_put, one_put, all_put}
+use Rattle.boot_rom.proofs.set_aside.Invariants.{SoFar}
 use Rattle.boot_rom.proofs.set_aside.Goals as goal
-
-record SoFar (map₀ aside₀ map aside : List ℕ) (i : ℕ) : Type 0 where
-  cleared : Laid map₀ (take 8184 map₀ ++ replicate 8 0) map (8184 + i)
-  taken : Laid aside₀ (drop 8184 map₀) aside i
 
 module _ (map₀ aside₀ : List ℕ) (size : length map₀ ≡ 8192) (eight : length aside₀ ≡ 8) where
   begun : SoFar map₀ aside₀ map₀ aside₀ 0
@@ -37,11 +34,11 @@ module _ (map₀ aside₀ : List ℕ) (size : length map₀ ≡ 8192) (eight : l
     still : length map ≡ length map₀
     still = so.cleared.size
 
-    all-taken : 8 ≤ i → aside ≡ drop 8184 map₀
-    all-taken h = all_laid aside₀ _ so.taken (length_last 8184 8 map₀ size ∙ sym eight) (omega arith)
+    all_taken : 8 ≤ i → aside ≡ drop 8184 map₀
+    all_taken h = all_laid aside₀ _ so.taken (length_last 8184 8 map₀ size ∙ sym eight) (omega arith)
 
-    all-cleared : 8 ≤ i → map ≡ take 8184 map₀ ++ replicate 8 0
-    all-cleared h = all_put 8184 8 map₀ size (replicate 8 0) refl so.cleared h
+    all_cleared : 8 ≤ i → map ≡ take 8184 map₀ ++ replicate 8 0
+    all_cleared h = all_put 8184 8 map₀ size (replicate 8 0) refl so.cleared h
 
 pub loop-i-init : goal.loop-i-init
 loop-i-init c = search (rules, begun)
@@ -59,4 +56,7 @@ pub shape_of-map : goal.shape_of-map
 shape_of-map c = search (rules, still)
 
 pub returns : goal.returns
-returns c = search (rules, all-taken, all-cleared)
+returns c = (
+  all_taken _ _ c.requires refl c.loop-i.invariant c.loop-i-test.false,
+  all_cleared _ _ c.requires refl c.loop-i.invariant c.loop-i-test.false,
+)

@@ -25,14 +25,14 @@ use Rattle.conversion.specs.Theorems.{Plain, signature_size, made_plain, new_pla
 use Rattle.conversion.proofs.file_from_record.Goals as goal
 
 module _ (state file : List ℕ) where
-  wrong-record : (length state ≡ 65543 → ⊥) → filled 6 file ≡ file_from_record state file
+  wrong_record : (length state ≡ 65543 → ⊥) → filled 6 file ≡ file_from_record state file
   unfolding to_file_refusal
-  wrong-record n = rw (ne_eqb _ _ n)
+  wrong_record n = rw (ne_eqb _ _ n)
 
   module _ (s : length state ≡ 65543) where
-    wrong-file : (length file ≡ 66048 → ⊥) → filled 7 file ≡ file_from_record state file
+    wrong_file : (length file ≡ 66048 → ⊥) → filled 7 file ≡ file_from_record state file
     unfolding to_file_refusal
-    wrong-file n = rw (eq-eqb _ _ s, ne_eqb _ _ n)
+    wrong_file n = rw (eq-eqb _ _ s, ne_eqb _ _ n)
 
     seven : length (take 7 state) ≡ 7
     seven = length-take-le 7 state (omega arith)
@@ -69,10 +69,10 @@ module _ (state file : List ℕ) where
         ∙ sym (not_refused (to_file_refusal state file) (file_of state) file (takes_record state file s f))
 
 pub returns-then-record-ne65543 : goal.returns-then-record-ne65543
-returns-then-record-ne65543 c = search (rules, wrong-record)
+returns-then-record-ne65543 c = search (rules, wrong_record)
 
 pub returns-then-file-ne66048 : goal.returns-then-file-ne66048
-returns-then-file-ne66048 c = search (rules, wrong-file)
+returns-then-file-ne66048 c = search (rules, wrong_file)
 
 pub slice_bounds-copy_from_slice-end-2 : goal.slice_bounds-copy_from_slice-end-2
 slice_bounds-copy_from_slice-end-2 c = simp length-take (omega arith)

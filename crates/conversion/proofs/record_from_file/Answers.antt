@@ -32,17 +32,17 @@ refusal_read file = go (ℕ_discrete (refusal_of file) 0)
     go (no n) = rw (ne_eqb _ _ n)
 
 module _ (file state : List ℕ) where
-  wrong-record : (length state ≡ 65543 → ⊥) → filled 6 state ≡ record_from_file file state
+  wrong_record : (length state ≡ 65543 → ⊥) → filled 6 state ≡ record_from_file file state
   unfolding to_record_refusal
-  wrong-record n = rw (ne_eqb _ _ n)
+  wrong_record n = rw (ne_eqb _ _ n)
 
   module _ (s : length state ≡ 65543) {read : FileRead} (e : read ≡ read_of file) where
     its_own : read.refusal ≡ refusal_of file
     its_own = ap (λ (f : FileRead). f.refusal) e ∙ refusal_read file
 
-    wrong-file : (read.refusal ≡ 0 → ⊥) → filled read.refusal state ≡ record_from_file file state
+    wrong_file : (read.refusal ≡ 0 → ⊥) → filled read.refusal state ≡ record_from_file file state
     unfolding to_record_refusal
-    wrong-file n = let m = rw its_own at n in rw (its_own, eq-eqb _ _ s, ne_eqb _ _ m, ne_eqb _ _ m)
+    wrong_file n = let m = rw its_own at n in rw (its_own, eq-eqb _ _ s, ne_eqb _ _ m, ne_eqb _ _ m)
 
     module _ (z : read.refusal ≡ 0) where
       none : refusal_of file ≡ 0
@@ -51,9 +51,9 @@ module _ (file state : List ℕ) where
       sized : length file ≡ 66048
       sized = (accepted none).size
 
-      not-default : {all : Bool} → all ≡ all_default file → all ≡ false → filled 10 state ≡ record_from_file file state
+      not_default : {all : Bool} → all ≡ all_default file → all ≡ false → filled 10 state ≡ record_from_file file state
       unfolding to_record_refusal
-      not-default a f = let some = sym a ∙ f in rw (eq-eqb _ _ s, eq-eqb _ _ none, some)
+      not_default a f = let some = sym a ∙ f in rw (eq-eqb _ _ s, eq-eqb _ _ none, some)
 
       nothing_refused : {all : Bool} → all ≡ all_default file → all ≡ true → to_record_refusal file state ≡ 0
       unfolding to_record_refusal
@@ -68,12 +68,12 @@ module _ (file state : List ℕ) where
           unfolding bytes_of
           seven = rw g
 
-          same-part : memory ≡ memory_in file
-          same-part = m ∙ gives_part file none
+          same_part : memory ≡ memory_in file
+          same_part = m ∙ gives_part file none
 
           as_long : length (drop 7 (registers ++ drop 7 state)) ≡ length memory
           as_long =
-              rw (same-part, drop_at registers (drop 7 state) 7 seven, length-drop) (omega (arith, memory_size (accepted none)))
+              rw (same_part, drop_at registers (drop 7 state) 7 seven, length-drop) (omega (arith, memory_size (accepted none)))
 
           -- both in their places, with nothing behind them
           in_place : {copied : List ℕ} → copied ≡ memory
@@ -81,7 +81,7 @@ module _ (file state : List ℕ) where
           in_place {copied} c =
               let row = registers ++ drop 7 state in
               let room : 7 ≤ length row = omega (arith, length-append registers (drop 7 state), seven) in
-              let all : copied ≡ memory_in file = c ∙ same-part in
+              let all : copied ≡ memory_in file = c ∙ same_part in
               let first : take 7 row ≡ registers = take_at registers (drop 7 state) 7 seven in
               let own : registers ≡ bytes_of (record_in file) = g ∙ ap (λ (f : FileRead). bytes_of f.cpu) (e ∙ gives_record file none) in
               rw (Post-is 7 (length row) row room, drop-length row, append-nil copied, first, own, all)
@@ -93,16 +93,16 @@ module _ (file state : List ℕ) where
               ∙ sym (not_refused (to_record_refusal file state) (record_of file) state (nothing_refused a t))
 
 pub returns-then-record-ne65543 : goal.returns-then-record-ne65543
-returns-then-record-ne65543 c = search (rules, wrong-record)
+returns-then-record-ne65543 c = search (rules, wrong_record)
 
 pub returns-then-refusal-ne0 : goal.returns-then-refusal-ne0
-returns-then-refusal-ne0 c = search (rules, wrong-file)
+returns-then-refusal-ne0 c = search (rules, wrong_file)
 
 pub has_defaults-requires : goal.has_defaults-requires
 has_defaults-requires c = search (rules, sized)
 
 pub returns-then-not-has_defaults : goal.returns-then-not-has_defaults
-returns-then-not-has_defaults c = search (rules, not-default)
+returns-then-not-has_defaults c = search (rules, not_default)
 
 pub slice_bounds-set_registers-end-2 : goal.slice_bounds-set_registers-end-2
 slice_bounds-set_registers-end-2 c = simp length-take (omega arith)

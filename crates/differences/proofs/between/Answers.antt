@@ -17,16 +17,16 @@ use Rattle.differences.proofs.between.Goals as goal
 
 module _ (first second : List ℕ) (has-map : Bool) (map row : List ℕ)
     {refusal : ℕ} (is : refusal ≡ lengths_refusal first second has-map map) where
-  wrong-lengths : {r : Differences} → (refusal ≡ 0 → ⊥) → r ≡ refused refusal → filled r row ≡ differences_of first second has-map map row
+  wrong_lengths : {r : Differences} → (refusal ≡ 0 → ⊥) → r ≡ refused refusal → filled r row ≡ differences_of first second has-map map row
   unfolding refusal_of
-  wrong-lengths n e = rw (e, ← is, ne_eqb _ _ n, ne_eqb _ _ n)
+  wrong_lengths n e = rw (e, ← is, ne_eqb _ _ n, ne_eqb _ _ n)
 
   module _ (z : refusal ≡ 0) where
-    right-pair : Pair first second
-    right-pair = paired first second has-map map (rw (← is) z)
+    right_pair : Pair first second
+    right_pair = paired first second has-map map (rw (← is) z)
 
-    right-map : Usable has-map map
-    right-map = usable first second has-map map (rw (← is) z)
+    right_map : Usable has-map map
+    right_map = usable first second has-map map (rw (← is) z)
 
     module _ {found : Differences} (f : found ≡ accepted (stretches_of first second) (marks_of has-map map)) where
       short_row : {r : Differences} → length row < 2 * found.stretches → r ≡ refused 3
@@ -47,16 +47,16 @@ module _ (first second : List ℕ) (has-map : Bool) (map row : List ℕ)
           rw (e, f, ← is, eq-eqb _ _ z, le-leb _ _ enough)
 
 pub returns-then-refusal-ne0 : goal.returns-then-refusal-ne0
-returns-then-refusal-ne0 c = search (rules, wrong-lengths)
+returns-then-refusal-ne0 c = search (rules, wrong_lengths)
 
 pub count-found-requires : goal.count-found-requires
-count-found-requires c = search (rules, right-pair, right-map)
+count-found-requires c = search (rules, right_pair, right_map)
 
 pub returns-then-row-numbers : goal.returns-then-row-numbers
 returns-then-row-numbers c = search (rules, short_row)
 
 pub write-requires : goal.write-requires
-write-requires c = search (rules, right-pair, room)
+write-requires c = search (rules, right_pair, room)
 
 pub returns : goal.returns
 returns c = search (rules, all_told)

@@ -12,17 +12,17 @@ use Rattle.engine.specs.Entry.{refusal_of}
 use Rattle.engine.proofs.refusal_of.Goals as goal
 
 module _ (number : ℕ) (w : World) {known : Bool} (e : known ≡ is_edition number) where
-  no-edition : not known ≡ true → 9 ≡ refusal_of number w
+  no_edition : not known ≡ true → 9 ≡ refusal_of number w
   unfolding refusal_of
-  no-edition n = let none = sym e ∙ not-true known n in rw none
+  no_edition n = let none = sym e ∙ not-true known n in rw none
 
   module _ (n : not known ≡ false) where
     one : is_edition number ≡ true
     one = sym e ∙ not-false known n
 
-    no-memory : (length w.memory ≡ 65536 → ⊥) → 1 ≡ refusal_of number w
+    no_memory : (length w.memory ≡ 65536 → ⊥) → 1 ≡ refusal_of number w
     unfolding refusal_of
-    no-memory m = rw (one, ne_eqb _ _ m)
+    no_memory m = rw (one, ne_eqb _ _ m)
 
     no_reads : length w.memory ≡ 65536 → (length w.reads ≡ 8192 → ⊥) → 2 ≡ refusal_of number w
     unfolding refusal_of
@@ -37,10 +37,10 @@ module _ (number : ℕ) (w : World) {known : Bool} (e : known ≡ is_edition num
     none m r s = rw (one, eq-eqb _ _ m, eq-eqb _ _ r, eq-eqb _ _ s)
 
 pub returns-then-not-is_edition : goal.returns-then-not-is_edition
-returns-then-not-is_edition c = search no-edition
+returns-then-not-is_edition c = search no_edition
 
 pub returns-then-memory-ne65536 : goal.returns-then-memory-ne65536
-returns-then-memory-ne65536 c = search no-memory
+returns-then-memory-ne65536 c = search no_memory
 
 pub returns-then-reads-ne8192 : goal.returns-then-reads-ne8192
 returns-then-reads-ne8192 c = search no_reads

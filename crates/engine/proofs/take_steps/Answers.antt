@@ -19,6 +19,6 @@ pub returns : goal.returns
 returns c =
     elim c.loop-left-test.branch [
       | then-loop-left-test+else-is_awake w ↦
-        resting c.loop-left.invariant w.is_awake.ensures w.if-is_awake.false c.number_of.ensures
+          resting c.loop-left.invariant w.is_awake.ensures w.if-is_awake.false c.number_of.ensures
       | else-loop-left-test w ↦ spent c.loop-left.invariant w.loop-left-test.false c.number_of.ensures
     ]

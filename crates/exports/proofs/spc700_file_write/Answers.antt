@@ -17,9 +17,9 @@ module _ (registers memory file : List ℕ) {whole : Bool} (tested : whole ≡ i
   not_whole : {r : ℕ} → not whole ≡ true → r ≡ packed 6 0 0 → filled r file ≡ file_write_call registers memory file
   not_whole t e = rw (e, is_not registers tested t)
 
-  write-answers : {cpu : Processor} {refusal r : ℕ} {after : List ℕ} → not whole ≡ false → cpu ≡ whole_of registers
+  write_answers : {cpu : Processor} {refusal r : ℕ} {after : List ℕ} → not whole ≡ false → cpu ≡ whole_of registers
       → filled refusal after ≡ write_of cpu memory file → r ≡ packed refusal 0 0 → filled r after ≡ file_write_call registers memory file
-  write-answers t c w p = rw (p, is_whole_lem registers tested t, ← c, ← w)
+  write_answers t c w p = rw (p, is_whole_lem registers tested t, ← c, ← w)
 
 pub returns-then-not-is_whole : goal.returns-then-not-is_whole
 returns-then-not-is_whole c = search (rules, not_whole)
@@ -28,4 +28,4 @@ pub whole-cpu-requires : goal.whole-cpu-requires
 whole-cpu-requires c = search (rules, eight)
 
 pub returns : goal.returns
-returns c = search (rules, write-answers)
+returns c = search (rules, write_answers)

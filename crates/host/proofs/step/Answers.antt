@@ -30,9 +30,9 @@ abbrev stepped : Processor → World → Outcome World Stepped
 stepped cpu w = outcome (record { cpu = cpu; rom = false }) w
 
 module _ (number : ℕ) (cpu : Processor) (w : World) where
-  rom-on : {o : Outcome World Stepped} → 128 ≤ get_or w.memory 0xF1 0 → get_or w.memory 0xF1 0 < 256 → o ≡ rom_step number cpu w
+  rom_on : {o : Outcome World Stepped} → 128 ≤ get_or w.memory 0xF1 0 → get_or w.memory 0xF1 0 < 256 → o ≡ rom_step number cpu w
       → o ≡ step_on (edition_of number) cpu w
-  rom-on h g e = rw (high _ h g) e
+  rom_on h g e = rw (high _ h g) e
 
   rom_off : {r : Ran} {left : World} → get_or w.memory 0xF1 0 < 128 → is_edition number ≡ true → Sized w
       → outcome r left ≡ step_answer number cpu w → stepped r.cpu left ≡ step_on (edition_of number) cpu w
@@ -55,7 +55,7 @@ shape_of-writes-then-memory-ge128 c = c.step.auto.writes
 pub returns-then-memory-ge128 : goal.returns-then-memory-ge128
 returns-then-memory-ge128 c =
     let given = world c.args.memory.now c.args.reads.now c.args.writes.now in
-    rom-on c.args.edition c.args.cpu given c.if-memory-ge128.true (search rules) c.step.ensures
+    rom_on c.args.edition c.args.cpu given c.if-memory-ge128.true (search rules) c.step.ensures
 
 pub shape_of-memory : goal.shape_of-memory
 shape_of-memory c = c.step-ran.auto.memory

@@ -51,32 +51,32 @@ module _ (opcode : ℕ) (bytes : List ℕ) (b : Bool) (e : b ≡ branches_on_dir
   tested : {t : Bool} → b ≡ t → corrected opcode ≡ t
   tested q = sym (the_corrected opcode fits.fits) ∙ sym e ∙ q
 
-  both-there : b ≡ true → length_of opcode ≤ length bytes + 1 → 1 < length bytes
-  both-there q enough = omega (arith, three_bytes opcode fits.fits (rw (tested q) tt))
+  both_there : b ≡ true → length_of opcode ≤ length bytes + 1 → 1 < length bytes
+  both_there q enough = omega (arith, three_bytes opcode fits.fits (rw (tested q) tt))
 
-  first-there : b ≡ true → length_of opcode ≤ length bytes + 1 → 0 < length bytes
-  first-there q enough = omega (arith, both-there q enough)
+  first_there : b ≡ true → length_of opcode ≤ length bytes + 1 → 0 < length bytes
+  first_there q enough = omega (arith, both_there q enough)
 
   module _ (l named start r : Line) (d : OpcodeData) (s : start ≡ pushed named (code " ")) (n : named ≡ adds l (letters d.name))
       (o : d ≡ data_of opcode) (some : d.modes.count ≡ 0 → ⊥) where
     in_order : b ≡ false → r ≡ adds start (modes_text (list_of d.modes) bytes) → r ≡ adds l (instruction_text opcode bytes)
     in_order q p = rw (others bytes opcode fits.fits (tested q)) (with_operands l named start r opcode bytes d p s n o some)
 
-    in-exchange : b ≡ true → r ≡ adds start (modes_text (list_of d.modes) (exchanged bytes)) → r ≡ adds l (instruction_text opcode bytes)
-    in-exchange q p =
+    in_exchange : b ≡ true → r ≡ adds start (modes_text (list_of d.modes) (exchanged bytes)) → r ≡ adds l (instruction_text opcode bytes)
+    in_exchange q p =
         rw (exchanges bytes opcode fits.fits (tested q)) (with_operands l named start r opcode (exchanged bytes) d p s n o some)
 
 pub returns-then-modes-eq0 : goal.returns-then-modes-eq0
 returns-then-modes-eq0 c = search (rules, name_only)
 
 pub bounds-operands-0 : goal.bounds-operands-0
-bounds-operands-0 c = search (rules, first-there)
+bounds-operands-0 c = search (rules, first_there)
 
 pub bounds-operands-1 : goal.bounds-operands-1
-bounds-operands-1 c = search (rules, both-there)
+bounds-operands-1 c = search (rules, both_there)
 
 pub returns-then-branches_on_direct_page : goal.returns-then-branches_on_direct_page
-returns-then-branches_on_direct_page c = search (rules, in-exchange)
+returns-then-branches_on_direct_page c = search (rules, in_exchange)
 
 pub returns : goal.returns
 returns c = search (rules, in_order)

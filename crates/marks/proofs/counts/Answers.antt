@@ -14,11 +14,11 @@ use Rattle.marks.proofs.Counting.{SoFar, few_of_both, room, at_first, one_more}
 use Rattle.marks.proofs.counts.Goals as goal
 
 module _ (reads writes : List ℕ) where
-  first-refused : {r : Counted} → (length reads ≡ 8192 → ⊥) → r ≡ no_counts → r ≡ counts_of reads writes
-  first-refused n e = rw (e, ne_eqb _ _ n)
+  first_refused : {r : Counted} → (length reads ≡ 8192 → ⊥) → r ≡ no_counts → r ≡ counts_of reads writes
+  first_refused n e = rw (e, ne_eqb _ _ n)
 
-  second-refused : {r : Counted} → length reads ≡ 8192 → (length writes ≡ 8192 → ⊥) → r ≡ no_counts → r ≡ counts_of reads writes
-  second-refused s n e = rw (e, eq-eqb _ _ s, ne_eqb _ _ n)
+  second_refused : {r : Counted} → length reads ≡ 8192 → (length writes ≡ 8192 → ⊥) → r ≡ no_counts → r ≡ counts_of reads writes
+  second_refused s n e = rw (e, eq-eqb _ _ s, ne_eqb _ _ n)
 
   -- After all bytes the sums are those of all addresses.
   counted : {r w b i : ℕ} → length reads ≡ 8192 → length writes ≡ 8192 → SoFar reads writes r w b i → length reads ≤ i
@@ -28,10 +28,10 @@ module _ (reads writes : List ℕ) where
       rw (eq-eqb _ _ s, eq-eqb _ _ t, sofar.read_only, sofar.stored_only, sofar.both, all)
 
 pub returns-then-reads-ne8192 : goal.returns-then-reads-ne8192
-returns-then-reads-ne8192 c = search (rules, first-refused)
+returns-then-reads-ne8192 c = search (rules, first_refused)
 
 pub returns-then-writes-ne8192 : goal.returns-then-writes-ne8192
-returns-then-writes-ne8192 c = search (rules, second-refused)
+returns-then-writes-ne8192 c = search (rules, second_refused)
 
 pub loop-i-init : goal.loop-i-init
 loop-i-init c = search (rules, at_first)

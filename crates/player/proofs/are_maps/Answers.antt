@@ -16,11 +16,11 @@ module _ (reads writes fetched made : ℕ) where
   no_writes : reads ≡ 8192 → (writes ≡ 8192 → ⊥) → false ≡ map_sizes reads writes fetched made
   no_writes a n = rw (eq-eqb _ _ a, ne_eqb _ _ n)
 
-  no-fetched : reads ≡ 8192 → writes ≡ 8192 → (fetched ≡ 8192 → ⊥) → false ≡ map_sizes reads writes fetched made
-  no-fetched a b n = rw (eq-eqb _ _ a, eq-eqb _ _ b, ne_eqb _ _ n)
+  no_fetched : reads ≡ 8192 → writes ≡ 8192 → (fetched ≡ 8192 → ⊥) → false ≡ map_sizes reads writes fetched made
+  no_fetched a b n = rw (eq-eqb _ _ a, eq-eqb _ _ b, ne_eqb _ _ n)
 
-  made-last : reads ≡ 8192 → writes ≡ 8192 → fetched ≡ 8192 → eqb made 8192 ≡ map_sizes reads writes fetched made
-  made-last a b c = rw (eq-eqb _ _ a, eq-eqb _ _ b, eq-eqb _ _ c)
+  made_last : reads ≡ 8192 → writes ≡ 8192 → fetched ≡ 8192 → eqb made 8192 ≡ map_sizes reads writes fetched made
+  made_last a b c = rw (eq-eqb _ _ a, eq-eqb _ _ b, eq-eqb _ _ c)
 
 pub returns-then-reads-ne8192 : goal.returns-then-reads-ne8192
 returns-then-reads-ne8192 c = search (rules, no_reads)
@@ -29,7 +29,7 @@ pub returns-then-writes-ne8192 : goal.returns-then-writes-ne8192
 returns-then-writes-ne8192 c = search (rules, no_writes)
 
 pub returns-then-fetched-ne8192 : goal.returns-then-fetched-ne8192
-returns-then-fetched-ne8192 c = search (rules, no-fetched)
+returns-then-fetched-ne8192 c = search (rules, no_fetched)
 
 pub returns : goal.returns
-returns c = search (rules, made-last)
+returns c = search (rules, made_last)

@@ -5,7 +5,6 @@ use mathlib.Core.Path.{◌≡◌}
 use mathlib.Core.Bool.{Bool}
 use mathlib.Core.List.{List}
 use lib.ListN.{set}
-use borrow.Author.Rules.{rules}
 use Rattle.psw.specs.Status.{one_if}
 use Rattle.player.specs.Packet.{told}
 use Rattle.player.proofs.end_told.Goals as goal

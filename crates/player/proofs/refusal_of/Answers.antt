@@ -25,12 +25,12 @@ module _ (head : List ℕ) (chip memory : ℕ) (maps : Bool) where
   unfolding refusal_of
   measured p m = rw (m.of_head, m.of_chip, m.of_memory, ← m.of_maps)
 
-  no-head : (length head ≡ 64 → ⊥) → Refuses head chip memory maps 6
-  no-head n p m = rw (measured p m, ne_eqb _ _ n)
+  no_head : (length head ≡ 64 → ⊥) → Refuses head chip memory maps 6
+  no_head n p m = rw (measured p m, ne_eqb _ _ n)
 
   module _ (h : length head ≡ 64) where
-    no-chip : (chip ≡ 512 → ⊥) → Refuses head chip memory maps 6
-    no-chip n p m = rw (measured p m, eq-eqb _ _ h, ne_eqb _ _ n)
+    no_chip : (chip ≡ 512 → ⊥) → Refuses head chip memory maps 6
+    no_chip n p m = rw (measured p m, eq-eqb _ _ h, ne_eqb _ _ n)
 
     module _ (c : chip ≡ 512) {whole : Bool} (is : whole ≡ is_whole (registers_in head)) where
       not_whole : not whole ≡ true → Refuses head chip memory maps 6
@@ -47,27 +47,27 @@ module _ (head : List ℕ) (chip memory : ℕ) (maps : Bool) where
           behind : (p : Packet) → Measured head chip memory maps p → refusal_of p ≡ others
           behind p m = let near = le-leb _ _ (rw u at l) in rw (measured p m, eq-eqb _ _ h, eq-eqb _ _ c, all, near)
 
-          no-edition : not known ≡ true → Refuses head chip memory maps 9
-          no-edition n p m = let none = sym e ∙ not-true known n in rw (behind p m, none)
+          no_edition : not known ≡ true → Refuses head chip memory maps 9
+          no_edition n p m = let none = sym e ∙ not-true known n in rw (behind p m, none)
 
           module _ (n : not known ≡ false) where
             one : is_edition (edition_in head) ≡ true
             one = sym e ∙ not-false known n
 
-            no-memory : (memory ≡ 65536 → ⊥) → Refuses head chip memory maps 1
-            no-memory n p m = rw (behind p m, one, ne_eqb _ _ n)
+            no_memory : (memory ≡ 65536 → ⊥) → Refuses head chip memory maps 1
+            no_memory n p m = rw (behind p m, one, ne_eqb _ _ n)
 
-            no-maps : memory ≡ 65536 → not maps ≡ true → Refuses head chip memory maps 2
-            no-maps s t p m = rw (behind p m, one, eq-eqb _ _ s, not-true maps t)
+            no_maps : memory ≡ 65536 → not maps ≡ true → Refuses head chip memory maps 2
+            no_maps s t p m = rw (behind p m, one, eq-eqb _ _ s, not-true maps t)
 
             nothing : memory ≡ 65536 → not maps ≡ false → Refuses head chip memory maps 0
             nothing s t p m = rw (behind p m, one, eq-eqb _ _ s, not-false maps t)
 
 pub returns-then-head-ne64 : goal.returns-then-head-ne64
-returns-then-head-ne64 c = search (rules, no-head)
+returns-then-head-ne64 c = search (rules, no_head)
 
 pub returns-then-chip-ne512 : goal.returns-then-chip-ne512
-returns-then-chip-ne512 c = search (rules, no-chip)
+returns-then-chip-ne512 c = search (rules, no_chip)
 
 pub returns-then-not-is_whole : goal.returns-then-not-is_whole
 returns-then-not-is_whole c = search (rules, not_whole)
@@ -76,13 +76,13 @@ pub returns-then-until-gt4294967280 : goal.returns-then-until-gt4294967280
 returns-then-until-gt4294967280 c = search (rules, too_far)
 
 pub returns-then-not-is_edition : goal.returns-then-not-is_edition
-returns-then-not-is_edition c = search (rules, no-edition)
+returns-then-not-is_edition c = search (rules, no_edition)
 
 pub returns-then-memory-ne65536 : goal.returns-then-memory-ne65536
-returns-then-memory-ne65536 c = search (rules, no-memory)
+returns-then-memory-ne65536 c = search (rules, no_memory)
 
 pub returns-then-not-maps : goal.returns-then-not-maps
-returns-then-not-maps c = search (rules, no-maps)
+returns-then-not-maps c = search (rules, no_maps)
 
 pub returns : goal.returns
 returns c = search (rules, nothing)

@@ -12,11 +12,11 @@ module _ (first second : ℕ) where
   first_one : (first ≡ 0 → ⊥) → first ≡ cond (eqb first 0) second first
   first_one n = rw (ne_eqb _ _ n)
 
-  second-one : first ≡ 0 → second ≡ cond (eqb first 0) second first
-  second-one z = rw (eq-eqb _ _ z)
+  second_one : first ≡ 0 → second ≡ cond (eqb first 0) second first
+  second_one z = rw (eq-eqb _ _ z)
 
 pub returns-then-first-ne0 : goal.returns-then-first-ne0
 returns-then-first-ne0 c = search (rules, first_one)
 
 pub returns : goal.returns
-returns c = search (rules, second-one)
+returns c = search (rules, second_one)

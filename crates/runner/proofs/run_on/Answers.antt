@@ -40,14 +40,14 @@ module _ (reads writes : List ℕ) {counted : Counted} (e : counted ≡ counts_o
   read_fits : Fits w32 (counted.read_only + counted.both)
   read_fits = rw e (omega (arith, (few reads writes).read))
 
-  written-fits : Fits w32 (counted.stored_only + counted.both)
-  written-fits = rw e (omega (arith, (few reads writes).stored))
+  written_fits : Fits w32 (counted.stored_only + counted.both)
+  written_fits = rw e (omega (arith, (few reads writes).stored))
 
 pub overflow_add-read : goal.overflow_add-read
 overflow_add-read c = search read_fits
 
 pub overflow_add-written : goal.overflow_add-written
-overflow_add-written c = search written-fits
+overflow_add-written c = search written_fits
 
 pub returns : goal.returns
 returns c = search (rules, told)

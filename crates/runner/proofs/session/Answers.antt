@@ -23,14 +23,14 @@ module _ (input : List ℕ) where
   unfolding adds
   says line f o e = rw (e, o, f) (record { opening = refl; closing = refl; left = refl })
 
-  wrong-length : {r : Report} → (length input ≡ 65548 → ⊥) → Told (refused (text "refused 6\n") input) r input → Told (session_of input) r input
+  wrong_length : {r : Report} → (length input ≡ 65548 → ⊥) → Told (refused (text "refused 6\n") input) r input → Told (session_of input) r input
   unfolding session_of
-  wrong-length n t = rw (ne_eqb _ _ n) t
+  wrong_length n t = rw (ne_eqb _ _ n) t
 
   module _ (size : length input ≡ 65548) {known : Bool} (e : known ≡ is_edition (edition_byte input)) where
-    no-edition : {r : Report} → not known ≡ true → Told (refused (text "refused 9\n") input) r input → Told (session_of input) r input
+    no_edition : {r : Report} → not known ≡ true → Told (refused (text "refused 9\n") input) r input → Told (session_of input) r input
     unfolding session_of
-    no-edition n t = let none = sym e ∙ not-true known n in rw (eq-eqb _ _ size, none) t
+    no_edition n t = let none = sym e ∙ not-true known n in rw (eq-eqb _ _ size, none) t
 
     one : not known ≡ false → is_edition (edition_byte input) ≡ true
     one n = sym e ∙ not-false known n
@@ -41,10 +41,10 @@ module _ (input : List ℕ) where
     accepts n t = rw (eq-eqb _ _ size, one n) t
 
 pub returns-then-input-ne65548 : goal.returns-then-input-ne65548
-returns-then-input-ne65548 c = search (rules, wrong-length, says)
+returns-then-input-ne65548 c = search (rules, wrong_length, says)
 
 pub returns-then-not-is_edition : goal.returns-then-not-is_edition
-returns-then-not-is_edition c = search (rules, no-edition, says)
+returns-then-not-is_edition c = search (rules, no_edition, says)
 
 pub accepted-requires : goal.accepted-requires
 accepted-requires c = search (rules, one)

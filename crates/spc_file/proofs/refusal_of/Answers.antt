@@ -16,9 +16,9 @@ use Rattle.spc_file.specs.Theorems.{accepts}
 use Rattle.spc_file.proofs.refusal_of.Goals as goal
 
 module _ (file : List ℕ) where
-  another-length : (length file ≡ 66048 → ⊥) → 7 ≡ refusal_of file
+  another_length : (length file ≡ 66048 → ⊥) → 7 ≡ refusal_of file
   unfolding refusal_of
-  another-length n = rw (ne_eqb _ _ n)
+  another_length n = rw (ne_eqb _ _ n)
 
   module _
       {same : Bool}
@@ -35,7 +35,7 @@ module _ (file : List ℕ) where
           rw (eq-eqb _ _ size) (sym (if_neg {C = ℕ} (List-discrete ℕ_discrete (take 33 file) signature) other 0 8))
 
 pub returns-then-file-ne66048 : goal.returns-then-file-ne66048
-returns-then-file-ne66048 c = search (rules, another-length)
+returns-then-file-ne66048 c = search (rules, another_length)
 
 pub slice_bounds-eq-end : goal.slice_bounds-eq-end
 slice_bounds-eq-end c = simp length-take (omega arith)

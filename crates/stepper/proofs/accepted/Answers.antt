@@ -30,8 +30,8 @@ module _ (input : List ℕ) (size : length input ≡ 131087) where
       Post-is 1 65544 input (omega arith) ∙ sym (take_all 65543 (drop 65544 input) (omega (arith, all)))
 
   module _ {after : List ℕ} (is : after ≡ outcome_of input) where
-    after-size : length after ≡ 65543
-    after-size = rw is (after_step_size (edition_of (edition_byte input)) (first_of input) first_size)
+    after_size : length after ≡ 65543
+    after_size = rw is (after_step_size (edition_of (edition_byte input)) (first_of input) first_size)
 
     whole : put_mid 1 65543 input after ≡ take 1 input ++ (after ++ second_of input)
     whole = rw behind
@@ -40,11 +40,11 @@ module _ (input : List ℕ) (size : length input ≡ 131087) where
     one = rw (length-take 1 input, size)
 
     first_back : first_of (put_mid 1 65543 input after) ≡ after
-    first_back = rw (whole, drop_at (take 1 input) (after ++ second_of input) 1 one) (take_at after (second_of input) 65543 after-size)
+    first_back = rw (whole, drop_at (take 1 input) (after ++ second_of input) 1 one) (take_at after (second_of input) 65543 after_size)
 
     second_back : second_of (put_mid 1 65543 input after) ≡ second_of input
     second_back =
-        let both : length (take 1 input ++ after) ≡ 65544 = rw (length-append (take 1 input) after, one, after-size) in
+        let both : length (take 1 input ++ after) ≡ 65544 = rw (length-append (take 1 input) after, one, after_size) in
         rw (whole, ← append_assoc (take 1 input) after (second_of input), drop_at (take 1 input ++ after) (second_of input) 65544 both)
         (take_all 65543 (second_of input) (omega (arith, second_size)))
 

@@ -1,10 +1,7 @@
 -- All bytes so far are alike; it ends where two are not, or where there are no more.
 -- Assumes nothing.
-use Prim.Native.Nat.{◌-◌}
-use lib.ListN.{length}
-use native.Mathlib.Omega.{arith}
 use borrow.Author.Rules.{rules}
-use Rattle.stepper.proofs.Walk.{Walked, begun, in_second, one_more, apart, ended}
+use Rattle.stepper.proofs.Walk.{begun, in_second, one_more, apart, ended}
 use Rattle.stepper.proofs.alike.Goals as goal
 
 pub loop-at-init : goal.loop-at-init

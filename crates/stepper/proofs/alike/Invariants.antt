@@ -2,9 +2,7 @@
 -- Assumes nothing.
 use Prim.Native.Nat.{◌-◌}
 use lib.ListN.{length}
-use native.Mathlib.Omega.{arith}
-use borrow.Author.Rules.{rules}
-use Rattle.stepper.proofs.Walk.{Walked, begun, in_second, one_more, apart, ended}
+use Rattle.stepper.proofs.Walk.{Walked}
 use Rattle.stepper.proofs.alike.Given as goal
 
 abbrev pub invariant-loop-at : goal.invariant-loop-at

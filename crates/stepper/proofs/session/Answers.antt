@@ -20,14 +20,14 @@ module _ (input : List ℕ) where
   says : (line : List ℕ) {first r : Line} → first ≡ blank → r ≡ adds first line → Told (refused line input) r input
   says line f e = rw (e, f) (record { printed = refl; left = refl })
 
-  wrong-length : {r : Line} → (length input ≡ 131087 → ⊥) → Told (refused (text "refused 6\n") input) r input → Told (session_of input) r input
+  wrong_length : {r : Line} → (length input ≡ 131087 → ⊥) → Told (refused (text "refused 6\n") input) r input → Told (session_of input) r input
   unfolding session_of
-  wrong-length n t = rw (ne_eqb _ _ n) t
+  wrong_length n t = rw (ne_eqb _ _ n) t
 
   module _ (size : length input ≡ 131087) {known : Bool} (e : known ≡ is_edition (edition_byte input)) where
-    no-edition : {r : Line} → not known ≡ true → Told (refused (text "refused 9\n") input) r input → Told (session_of input) r input
+    no_edition : {r : Line} → not known ≡ true → Told (refused (text "refused 9\n") input) r input → Told (session_of input) r input
     unfolding session_of
-    no-edition n t = let none = sym e ∙ not-true known n in rw (eq-eqb _ _ size, none) t
+    no_edition n t = let none = sym e ∙ not-true known n in rw (eq-eqb _ _ size, none) t
 
     one : not known ≡ false → is_edition (edition_byte input) ≡ true
     one n = sym e ∙ not-false known n
@@ -37,10 +37,10 @@ module _ (input : List ℕ) where
     accepts n t = rw (eq-eqb _ _ size, one n) t
 
 pub returns-then-input-ne131087 : goal.returns-then-input-ne131087
-returns-then-input-ne131087 c = search (rules, wrong-length, says)
+returns-then-input-ne131087 c = search (rules, wrong_length, says)
 
 pub returns-then-not-is_edition : goal.returns-then-not-is_edition
-returns-then-not-is_edition c = search (rules, no-edition, says)
+returns-then-not-is_edition c = search (rules, no_edition, says)
 
 pub accepted-requires : goal.accepted-requires
 accepted-requires c = search (rules, one)

@@ -20,16 +20,16 @@ use Rattle.stepper.proofs.take_step.Goals as goal
 
 module _ (state : List ℕ) (size : length state ≡ 65543) where
   -- the memory put back behind the registers, with nothing behind it
-  memory-back : (memory : List ℕ) → post_of 0 7 (put_mid 7 (length state - 7) state memory) ≡ memory
-  memory-back memory =
+  memory_back : (memory : List ℕ) → post_of 0 7 (put_mid 7 (length state - 7) state memory) ≡ memory
+  memory_back memory =
       let seven : length (take 7 state) ≡ 7 = rw (length-take 7 state, size) in
       rw (Post-is 7 (length state) state (omega (arith, size)), drop-length state, append-nil memory) (drop_at (take 7 state) memory 7 seven)
 
-  put-together : (edition : Edition) {cpu : Processor} {ran : Ran} {part memory registers : List ℕ}
+  put_together : (edition : Edition) {cpu : Processor} {ran : Ran} {part memory registers : List ℕ}
       → cpu ≡ registers_of (take 7 state) → part ≡ drop 7 state → Taken (stepped edition cpu part) ran memory → registers ≡ bytes_of ran.cpu
       → registers ++ post_of 0 7 (put_mid 7 (length state - 7) state memory) ≡ after_step edition state
   unfolding after_step
-  put-together edition {memory = memory} c p s g = let t = rw (c, p) at s in rw (memory-back memory, g, t.answer, t.left)
+  put_together edition {memory = memory} c p s g = let t = rw (c, p) at s in rw (memory_back memory, g, t.answer, t.left)
 
 pub returns : goal.returns
-returns c = search (rules, put-together, part_to_end)
+returns c = search (rules, put_together, part_to_end)

@@ -1,8 +1,7 @@
 -- The invariant is `Giving`: what is left to store, from here on, makes the buffer what it is to be.
 -- Assumes nothing.
-use Prim.Native.Nat.{◌-◌}
 use borrow.Author.Rules.{rules}
-use Rattle.surveyor.proofs.Giving.{Giving, begin_give, high_byte, still_long, first_place, second_place, one_given}
+use Rattle.surveyor.proofs.Giving.{begin_give, high_byte, still_long, first_place, second_place, one_given}
 use Rattle.surveyor.proofs.Giving.{no_room, room_for_all}
 use Rattle.surveyor.proofs.give.Goals as goal
 

@@ -20,6 +20,6 @@ pub returns : goal.returns
 returns c =
     elim c.loop-left-test.branch [
       | then-loop-left-test+else-stop-eq0 w ↦
-        resting c.loop-left.invariant c.requires.0 (ne_eqb c.loop-left.stop 0 w.if-stop-eq0.false)
+          resting c.loop-left.invariant c.requires.0 (ne_eqb c.loop-left.stop 0 w.if-stop-eq0.false)
       | else-loop-left-test w ↦ spent c.loop-left.invariant c.requires.0 w.loop-left-test.false
     ]

@@ -36,13 +36,13 @@ module _ (memory other : List ℕ) where
   all {at} so h = let none : 256 - at ≡ 0 = omega arith in sym (rw none at so.is)
 
 module _ (c d : Devices) (memory other : List ℕ) where
-  other-cycle : (c.cycles ≡ d.cycles → ⊥) → false ≡ same_stores c d memory other
+  other_cycle : (c.cycles ≡ d.cycles → ⊥) → false ≡ same_stores c d memory other
   unfolding same_stores
-  other-cycle e = rw (ne_eqb _ _ e)
+  other_cycle e = rw (ne_eqb _ _ e)
 
-  other-marks : c.cycles ≡ d.cycles → (c.last ≡ d.last → ⊥) → false ≡ same_stores c d memory other
+  other_marks : c.cycles ≡ d.cycles → (c.last ≡ d.last → ⊥) → false ≡ same_stores c d memory other
   unfolding same_stores
-  other-marks e f = rw (eq-eqb _ _ e, ne_eqb _ _ f)
+  other_marks e f = rw (eq-eqb _ _ e, ne_eqb _ _ f)
 
   no_marks : c.cycles ≡ d.cycles → c.last ≡ d.last → c.last ≡ 0 → true ≡ same_stores c d memory other
   unfolding same_stores
@@ -54,10 +54,10 @@ module _ (c d : Devices) (memory other : List ℕ) where
   by_bytes e f g h = rw (eq-eqb _ _ e, eq-eqb _ _ f, ne_eqb _ _ g) h
 
 pub returns-then-c-d : goal.returns-then-c-d
-returns-then-c-d c = search (rules, other-cycle)
+returns-then-c-d c = search (rules, other_cycle)
 
 pub returns-then-c-d-2 : goal.returns-then-c-d-2
-returns-then-c-d-2 c = search (rules, other-marks)
+returns-then-c-d-2 c = search (rules, other_marks)
 
 pub returns-then-c-eq0 : goal.returns-then-c-eq0
 returns-then-c-eq0 c = search (rules, no_marks)

@@ -23,16 +23,16 @@ module _ {bits voice rest : ℕ} {start chip : List ℕ} (more : voice < 8) (so 
   unfolding keyed
   next = let one : 8 - voice ≡ suc (8 - (voice + 1)) = omega arith in rw one at so.is
 
-  one-keyed : {after : List ℕ} → rest % 2 ≡ 1 → after ≡ set chip (256 + get_or chip (16 * voice + 4) 0) 1
+  one_keyed : {after : List ℕ} → rest % 2 ≡ 1 → after ≡ set chip (256 + get_or chip (16 * voice + 4) 0) 1
       → SoFar bits start (voice + 1) (rest / 2) after
-  one-keyed t e = record {
+  one_keyed t e = record {
     within = omega arith;
     size = rw (e, length-set) so.size;
     is = rw e (rw (eq-eqb _ _ t) at next);
   }
 
-  none-keyed : {after : List ℕ} → (rest % 2 ≡ 1 → ⊥) → after ≡ chip → SoFar bits start (voice + 1) (rest / 2) after
-  none-keyed t e = record { within = omega arith; size = rw e so.size; is = rw e (rw (ne_eqb _ _ t) at next) }
+  none_keyed : {after : List ℕ} → (rest % 2 ≡ 1 → ⊥) → after ≡ chip → SoFar bits start (voice + 1) (rest / 2) after
+  none_keyed t e = record { within = omega arith; size = rw e so.size; is = rw e (rw (ne_eqb _ _ t) at next) }
 
 all : {bits voice rest : ℕ} {start chip : List ℕ} → 8 ≤ voice → SoFar bits start voice rest chip → chip ≡ keyed 8 0 bits start
 unfolding keyed
@@ -46,8 +46,8 @@ loop-voice-preserved c =
     let more = c.loop-voice-test.true in
     let so = c.loop-voice.invariant in
     elim c.if-rest-eq1.branch [
-      | then-rest-eq1 w ↦ one-keyed more so w.if-rest-eq1.true w.chip-is
-      | else-rest-eq1 w ↦ none-keyed more so w.if-rest-eq1.false w.chip-is
+      | then-rest-eq1 w ↦ one_keyed more so w.if-rest-eq1.true w.chip-is
+      | else-rest-eq1 w ↦ none_keyed more so w.if-rest-eq1.false w.chip-is
     ]
 
 pub returns : goal.returns

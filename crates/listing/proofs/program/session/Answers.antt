@@ -41,17 +41,17 @@ abbrev lines : List ℕ → List ℕ
 lines input = lines_of 0 (get_or input 1 0 * 256 + get_or input 0 0) (take (length input - 2) (drop 2 input))
 
 module _ (input before : List ℕ) (n : ℕ) (total : n ≡ length (lines input)) (h : 2 ≤ length input) (g : length input ≤ 4098) where
-  is-listed : session_of input ≡ lines input
-  is-listed = rw (part_to_end, listed input h g)
+  is_listed : session_of input ≡ lines input
+  is_listed = rw (part_to_end, listed input h g)
 
   no_room : length before < n → Given (says (session_of input)) before before (refused 3)
   no_room less = let short = lt-leb (length (lines input)) (length before) (omega arith) in
-      rw is-listed (record { answer = rw short; buffer = rw short })
+      rw is_listed (record { answer = rw short; buffer = rw short })
 
   all_written : (after : List ℕ) → after ≡ laid_into before (lines input) → n ≤ length before
       → Given (says (session_of input)) before after (accepted n)
   all_written after laid room = let fits = le-leb (length (lines input)) (length before) (omega arith) in
-      rw is-listed (record { answer = rw (fits, total); buffer = rw fits laid })
+      rw is_listed (record { answer = rw (fits, total); buffer = rw fits laid })
 
 pub returns-then-input-lt2 : goal.returns-then-input-lt2
 returns-then-input-lt2 c = search (rules, short_input)

@@ -13,17 +13,17 @@ use Rattle.listing.proofs.Cut.{is_cut_lem, is_whole_lem}
 use Rattle.listing.proofs.program.turn_at.Goals as goal
 
 module _ (address : ℕ) where
-  turn-cut : (code : List ℕ) → 0 < length code → is_cut code ≡ true
+  turn_cut : (code : List ℕ) → 0 < length code → is_cut code ≡ true
       → (turn_text address code ≡ text "refused 4\n") × (turn_bytes code ≡ length code)
   unfolding turn_text turn_bytes
-  turn-cut [] some e = absurd (omega arith)
-  turn-cut (opcode ∷ code) some e = (rw e, rw (e, add-one))
+  turn_cut [] some e = absurd (omega arith)
+  turn_cut (opcode ∷ code) some e = (rw e, rw (e, add-one))
 
-  turn-whole : (code : List ℕ) → 0 < length code → is_cut code ≡ false
+  turn_whole : (code : List ℕ) → 0 < length code → is_cut code ≡ false
       → (turn_text address code ≡ line_text address (get_or code 0 0) (drop 1 code)) × (turn_bytes code ≡ length_of (get_or code 0 0))
   unfolding turn_text turn_bytes
-  turn-whole [] some e = absurd (omega arith)
-  turn-whole (opcode ∷ code) some e = (rw e, rw e)
+  turn_whole [] some e = absurd (omega arith)
+  turn_whole (opcode ∷ code) some e = (rw e, rw e)
 
 -- the bytes from a place on, as the code takes them
 abbrev from_place : List ℕ → ℕ → List ℕ
@@ -37,33 +37,33 @@ module _ (code : List ℕ) (at : ℕ) (h : at < length code) (n : ℕ) (e : n �
   bytes = rw part_to_end at e
 
   module _ (less : length (from_place code at) < n) where
-    is-short : is_cut (drop at code) ≡ true
-    is-short = let test = rw part_to_end at less in is_cut_lem (drop at code) (omega (arith, bytes))
+    is_short : is_cut (drop at code) ≡ true
+    is_short = let test = rw part_to_end at less in is_cut_lem (drop at code) (omega (arith, bytes))
 
     cut_line : (address : ℕ) (l start : Line) → l ≡ adds start (text "refused 4\n") → start ≡ blank → l ≡ adds blank (turn_text address (drop at code))
-    cut_line address l start p new = rw (turn-cut address (drop at code) some is-short).0 (rw new at p)
+    cut_line address l start p new = rw (turn_cut address (drop at code) some is_short).0 (rw new at p)
 
-    cut-bytes : length (from_place code at) ≡ turn_bytes (drop at code)
-    cut-bytes = rw (part_to_end, (turn-cut 0 (drop at code) some is-short).1)
+    cut_bytes : length (from_place code at) ≡ turn_bytes (drop at code)
+    cut_bytes = rw (part_to_end, (turn_cut 0 (drop at code) some is_short).1)
 
   module _ (enough : n ≤ length (from_place code at)) where
-    is-full : is_cut (drop at code) ≡ false
-    is-full = let test = rw part_to_end at enough in is_whole_lem (drop at code) some (omega (arith, bytes))
+    is_full : is_cut (drop at code) ≡ false
+    is_full = let test = rw part_to_end at enough in is_whole_lem (drop at code) some (omega (arith, bytes))
 
-    whole-bytes : n ≡ turn_bytes (drop at code)
-    whole-bytes = rw (turn-whole 0 (drop at code) some is-full).1 bytes
+    whole_bytes : n ≡ turn_bytes (drop at code)
+    whole_bytes = rw (turn_whole 0 (drop at code) some is_full).1 bytes
 
     -- the parts of a line, written one behind the other
-    whole-line : (address : ℕ) (a b d o r : Line) → r ≡ pushed o 10
+    whole_line : (address : ℕ) (a b d o r : Line) → r ≡ pushed o 10
         → o ≡ adds d (instruction_text (get_or (from_place code at) 0 0) (from_place (from_place code at) 1)) → d ≡ pushed b 32
         → b ≡ adds a (hex_word address) → a ≡ blank → r ≡ adds blank (turn_text address (drop at code))
     unfolding line_text
-    whole-line address a b d o r t s q p new =
-        rw (turn-whole address (drop at code) some is-full).0
+    whole_line address a b d o r t s q p new =
+        rw (turn_whole address (drop at code) some is_full).0
         (simp (t, s, q, p, new, part_to_end, adds_push, adds_append, append_assoc))
 
 pub returns-then-part-bytes : goal.returns-then-part-bytes
-returns-then-part-bytes c = search (rules, cut_line, cut-bytes)
+returns-then-part-bytes c = search (rules, cut_line, cut_bytes)
 
 pub returns : goal.returns
-returns c = search (rules, whole-line, whole-bytes)
+returns c = search (rules, whole_line, whole_bytes)

@@ -20,8 +20,8 @@ module _ (text buffer : List ℕ) (done : ℕ) (h : done ≤ length text) (g : d
   abbrev front : List ℕ
   front = take done text ++ drop done buffer
 
-  length-done : length front ≡ length buffer
-  length-done = length_front buffer (take done text) done (length-take-le done text h ∙ sym (length-take-le done buffer g))
+  length_done : length front ≡ length buffer
+  length_done = length_front buffer (take done text) done (length-take-le done text h ∙ sym (length-take-le done buffer g))
 
   -- a line more of the text, given into the rest of the buffer
   stored : (line : List ℕ) {part : List ℕ} {r : Written}
@@ -32,7 +32,7 @@ module _ (text buffer : List ℕ) (done : ℕ) (h : done ≤ length text) (g : d
       let rest = part_to_end front done ∙ drop_at (take done text) (drop done buffer) done (length-take-le done text h) in
       let room : length line ≤ length (drop done buffer) = rw length-drop (omega arith) in
       let given = rw (rest, le-leb (length line) (length (drop done buffer)) room) at gives.buffer in
-      let none = Post-is done (length front) front (omega (arith, length-done)) ∙ drop-length front in
+      let none = Post-is done (length front) front (omega (arith, length_done)) ∙ drop-length front in
       let same = take_at (take done text) (drop done buffer) done (length-take-le done text h) in
       rw (none, same, given, more, append-nil, drop-drop, append_assoc)
 
@@ -40,20 +40,20 @@ module _ (start : ℕ) (code out₀ out : List ℕ) (done at address : ℕ) (u :
     (laid : out ≡ take done (lines_of 0 start code) ++ drop done out₀) (room : length (lines_of 0 start code) ≤ length out₀) where
   -- the buffer is as long as it was, and what is done lies in it
   still_long : length out ≡ length out₀
-  still_long = rw laid (length-done (lines_of 0 start code) out₀ done u.within (omega (arith, u.within)))
+  still_long = rw laid (length_done (lines_of 0 start code) out₀ done u.within (omega (arith, u.within)))
 
-  room-left : done ≤ length out
-  room-left = omega (arith, u.within, still_long)
+  room_left : done ≤ length out
+  room_left = omega (arith, u.within, still_long)
 
   -- where no code is left, it starts with the whole listing
   all_laid : length code ≤ at → out ≡ laid_into out₀ (lines_of 0 start code)
   all_laid h = rw (all_done u h, take-length) at laid
 
   -- the line at hand, given into the rest of it
-  line-stored : (l : Line) (part : List ℕ) (r : Written) → Given (says (shown l)) (take (length out - done) (drop done out)) part r
+  line_stored : (l : Line) (part : List ℕ) (r : Written) → Given (says (shown l)) (take (length out - done) (drop done out)) part r
       → l ≡ adds blank (turn_text address (drop at code)) → at < length code → ((i : ℕ) → Fits w8 (get_or code i 0))
       → put_mid done (length out - done) out part ≡ take (done + l.length) (lines_of 0 start code) ++ drop (done + l.length) out₀
-  line-stored l part r gives p h fits =
+  line_stored l part r gives p h fits =
       let line = turn_text address (drop at code) in
       let bytes : Bytes code = λ i. (fits i).fits in
       let short = turn_fits address (drop at code) (bytes_drop at code bytes) in
@@ -67,10 +67,10 @@ pub loop-at-init : goal.loop-at-init
 loop-at-init c = (nothing_yet _ _ (omega arith), refl)
 
 pub slice_bounds-give-count : goal.slice_bounds-give-count
-slice_bounds-give-count c = search (rules, room-left)
+slice_bounds-give-count c = search (rules, room_left)
 
 pub slice_bounds-give-start : goal.slice_bounds-give-start
-slice_bounds-give-start c = search (rules, room-left)
+slice_bounds-give-start c = search (rules, room_left)
 
 pub overflow_add-done : goal.overflow_add-done
 overflow_add-done c = search (rules, done_fits)
@@ -85,7 +85,7 @@ pub loop-at-smaller : goal.loop-at-smaller
 loop-at-smaller c = search (rules, fewer_left)
 
 pub loop-at-preserved : goal.loop-at-preserved
-loop-at-preserved c = search (rules, upto_next, line-stored)
+loop-at-preserved c = search (rules, upto_next, line_stored)
 
 pub shape_of-out : goal.shape_of-out
 shape_of-out c = search (rules, still_long)

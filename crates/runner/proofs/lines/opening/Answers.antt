@@ -1,6 +1,5 @@
 -- Each piece of the text is added behind the one before it; pieces added one after the other add up.
 -- Assumes nothing.
-use borrow.Author.Rules.{rules}
 use Rattle.text.proofs.Laws.{adds_append}
 use Rattle.runner.specs.Session.{opening_of}
 use Rattle.runner.proofs.lines.opening.Goals as goal
@@ -8,13 +7,13 @@ use Rattle.runner.proofs.lines.opening.Goals as goal
 pub returns : goal.returns
 unfolding opening_of
 returns c = rw (
-      c.text-4.ensures,
-      c.registers_on_line.ensures,
-      c.text-3.ensures,
-      c.decimal-steps.ensures,
-      c.text-2.ensures,
-      c.decimal-stop.ensures,
-      c.text.ensures,
-      c.new.ensures,
-    )
+  c.text-4.ensures,
+  c.registers_on_line.ensures,
+  c.text-3.ensures,
+  c.decimal-steps.ensures,
+  c.text-2.ensures,
+  c.decimal-stop.ensures,
+  c.text.ensures,
+  c.new.ensures,
+)
     (simp adds_append)

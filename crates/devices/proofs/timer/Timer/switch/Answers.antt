@@ -12,9 +12,9 @@ module _ (on : Bool) (t : Timer) where
   unfolding switched
   turned_on e was-off = rw (e, was-off)
 
-  stays-off : on ≡ false → timer on t.target t.ticks t.count ≡ switched on t
+  stays_off : on ≡ false → timer on t.target t.ticks t.count ≡ switched on t
   unfolding switched
-  stays-off e = rw e
+  stays_off e = rw e
 
   stays_on : on ≡ true → not t.on ≡ false → timer on t.target t.ticks t.count ≡ switched on t
   unfolding switched
@@ -27,5 +27,5 @@ pub returns-else-on : goal.returns-else-on
 returns-else-on c =
     elim c.else-on.branch [
       | else-on-via-then-on+else-not-self w ↦ search (rules, stays_on)
-      | else-on-via-else-on w ↦ search (rules, stays-off)
+      | else-on-via-else-on w ↦ search (rules, stays_off)
     ]

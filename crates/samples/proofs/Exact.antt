@@ -14,8 +14,8 @@ use Rattle.samples.specs.Addresses.{Among, is_last, NoneLast, Block, InBlocks}
 -- ---- one address or block more
 
 module _ (at : ℕ) (a : at < 65536) where
-  more-among : (n k : ℕ) → k < 65536 → ((at ≡ k) ⊎ Among n ((at + 1) % 65536) k) ↔ Among (suc n) at k
-  more-among n k h = (
+  more_among : (n k : ℕ) → k < 65536 → ((at ≡ k) ⊎ Among n ((at + 1) % 65536) k) ↔ Among (suc n) at k
+  more_among n k h = (
     ⊎_elim (λ e. record { place = 0; within = omega arith; there = omega arith })
         (λ m. record { place = suc m.place; within = omega (arith, m.within); there = omega (arith, m.there) }),
     λ m. go m.place m.within m.there,
@@ -29,12 +29,12 @@ module _ (at : ℕ) (a : at < 65536) where
   pub next_block : (i : ℕ) → ((at + 9) % 65536 + 9 * i) % 65536 ≡ (at + 9 * suc i) % 65536
   next_block i = omega arith
 
-  at-hand : (at + 9 * 0) % 65536 ≡ at
-  at-hand = omega arith
+  at_hand : (at + 9 * 0) % 65536 ≡ at
+  at_hand = omega arith
 
   module _ (memory : List ℕ) where
     pub none_last : (n : ℕ) → is_last memory at ≡ false → NoneLast memory n ((at + 9) % 65536) → NoneLast memory (suc n) at
-    none_last n on rest zero h = rw at-hand on
+    none_last n on rest zero h = rw at_hand on
     none_last n on rest (suc i) h = rw (← next_block i) (rest i (omega arith))
 
     module _ (n k : ℕ) where
@@ -47,20 +47,20 @@ module _ (at : ℕ) (a : at < 65536) where
         inside = m;
       }
 
-      in-first : (first : ℕ) → Block memory at 0 first → Among 9 first k → Among 9 at k
-      in-first first b m = let same : first ≡ at = omega (arith, b.there) in rw (← same) m
+      in_first : (first : ℕ) → Block memory at 0 first → Among 9 first k → Among 9 at k
+      in_first first b m = let same : first ≡ at = omega (arith, b.there) in rw (← same) m
 
       -- where the first is a last one, there is no other
-      only-block : is_last memory at ≡ true → Among 9 at k ↔ InBlocks memory (suc n) at k
-      only-block last = (first_block, λ m. go m.number m.first m.block m.inside)
+      only_block : is_last memory at ≡ true → Among 9 at k ↔ InBlocks memory (suc n) at k
+      only_block last = (first_block, λ m. go m.number m.first m.block m.inside)
         where
           go : (i first : ℕ) → Block memory at i first → Among 9 first k → Among 9 at k
-          go zero first b m = in-first first b m
-          go (suc i) first b m = absurd (true≢false (sym last ∙ rw at-hand at (b.going_on 0 (omega arith))))
+          go zero first b m = in_first first b m
+          go (suc i) first b m = absurd (true≢false (sym last ∙ rw at_hand at (b.going_on 0 (omega arith))))
 
       -- and otherwise the others follow
-      more-blocks : is_last memory at ≡ false → (Among 9 at k ⊎ InBlocks memory n ((at + 9) % 65536) k) ↔ InBlocks memory (suc n) at k
-      more-blocks on = (⊎_elim first_block after, λ m. go m.number m.within m.first m.block m.inside)
+      more_blocks : is_last memory at ≡ false → (Among 9 at k ⊎ InBlocks memory n ((at + 9) % 65536) k) ↔ InBlocks memory (suc n) at k
+      more_blocks on = (⊎_elim first_block after, λ m. go m.number m.within m.first m.block m.inside)
         where
           after : InBlocks memory n ((at + 9) % 65536) k → InBlocks memory (suc n) at k
           after m = record {
@@ -76,7 +76,7 @@ module _ (at : ℕ) (a : at < 65536) where
 
           go : (i : ℕ) → i < suc n → (first : ℕ) → Block memory at i first → Among 9 first k
               → Among 9 at k ⊎ InBlocks memory n ((at + 9) % 65536) k
-          go zero w first b m = inl (in-first first b m)
+          go zero w first b m = inl (in_first first b m)
           go (suc i) w first b m =
               inr
               (record {
@@ -121,8 +121,8 @@ module _ (writes : List ℕ) where
           )
 
   -- one after the other
-  adds-both : {a b c : List ℕ} {These Those : ℕ → Type 0} → Adds a b These → Adds b c Those → Adds a c (λ k. These k ⊎ Those k)
-  adds-both f g = record {
+  adds_both : {a b c : List ℕ} {These Those : ℕ → Type 0} → Adds a b These → Adds b c Those → Adds a c (λ k. These k ⊎ Those k)
+  adds_both f g = record {
     exact = λ k h.
         let one = f.exact k h in
         let two = g.exact k h in (
@@ -148,8 +148,8 @@ module _ (writes : List ℕ) where
   unfolding fetched
   adds_fetched zero at map a size = adds_same (λ k h. (λ e. absurd e, λ m. omega (arith, m.within))) (adds_none map)
   adds_fetched (suc n) at map a size =
-      adds_same (more-among at a n)
-      (adds-both (adds_one map at size)
+      adds_same (more_among at a n)
+      (adds_both (adds_one map at size)
       (adds_fetched n ((at + 1) % 65536) _ (omega arith) (length_marked_unless map writes at ∙ size)))
 
   pub adds_blocks : (memory : List ℕ) (n at : ℕ) (map : List ℕ) → at < 65536 → length map ≡ 8192
@@ -162,5 +162,5 @@ module _ (writes : List ℕ) where
     where
       go : {more all : List ℕ} (b : Bool) → is_last memory at ≡ b → Adds map more (Among 9 at)
           → Adds more all (InBlocks memory n ((at + 9) % 65536)) → Adds map (cond b more all) (InBlocks memory (suc n) at)
-      go true e nine rest = adds_same (λ k h. only-block at a memory n k e) nine
-      go false e nine rest = adds_same (λ k h. more-blocks at a memory n k e) (adds-both nine rest)
+      go true e nine rest = adds_same (λ k h. only_block at a memory n k e) nine
+      go false e nine rest = adds_same (λ k h. more_blocks at a memory n k e) (adds_both nine rest)

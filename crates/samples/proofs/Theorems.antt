@@ -12,9 +12,9 @@ use Rattle.marks.specs.Maps.{is_marked}
 use Rattle.samples.specs.Fetched.{fetched, blocks, sample, voices}
 use Rattle.samples.specs.Lengths.{length_voices}
 use Rattle.samples.specs.Addresses.{Among, InBlocks}
-use Rattle.samples.specs.Exact.{adds_fetched, adds_blocks}
-use Rattle.samples.specs.Round.{no_more}
-use Rattle.samples.specs.Staying.{sample_stays, voices_stays}
+use Rattle.samples.proofs.Exact.{adds_fetched, adds_blocks}
+use Rattle.samples.proofs.Round.{no_more}
+use Rattle.samples.proofs.Staying.{sample_stays, voices_stays}
 
 -- With any written map, and a map of 8,192 bytes.
 module _ (writes map : List ℕ) (size : length map ≡ 8192) where

@@ -5,7 +5,7 @@ use Rattle.std.proofs.Common.{◌∙◌, inl, inr, ⊎_elim}
 use Rattle.marks.specs.Maps.{is_marked, marked_unless}
 use Rattle.samples.specs.Fetched.{fetched, blocks, entry_of, sample, voices}
 use Rattle.samples.specs.Lengths.{length_marked_unless, length_fetched, length_blocks, length_voice}
-use Rattle.samples.specs.Exact.{adds_one}
+use Rattle.samples.proofs.Exact.{adds_one}
 
 module _ (writes : List ℕ) where
   -- A map that has all the marks of another, and others only where nothing is stored.
@@ -26,33 +26,33 @@ module _ (writes : List ℕ) where
   either true f g = f
   either false f g = g
 
-  one-stays : (at : ℕ) (map : List ℕ) → length map ≡ 8192 → Stays map (marked_unless map writes at)
-  one-stays at map size = record {
+  one_stays : (at : ℕ) (map : List ℕ) → length map ≡ 8192 → Stays map (marked_unless map writes at)
+  one_stays at map size = record {
     marks = λ k h t. ((adds_one writes map at size).exact k h).1 (inl t);
     others = λ k h t. ⊎_elim (λ u. inl u) (λ p. inr p.1) (((adds_one writes map at size).exact k h).0 t);
   }
 
-  fetched-stays : (n at : ℕ) (map : List ℕ) → length map ≡ 8192 → Stays map (fetched n at writes map)
+  fetched_stays : (n at : ℕ) (map : List ℕ) → length map ≡ 8192 → Stays map (fetched n at writes map)
   unfolding fetched
-  fetched-stays zero at map size = itself map
-  fetched-stays (suc n) at map size =
-      then (one-stays at map size) (fetched-stays n ((at + 1) % 65536) _ (length_marked_unless map writes at ∙ size))
+  fetched_stays zero at map size = itself map
+  fetched_stays (suc n) at map size =
+      then (one_stays at map size) (fetched_stays n ((at + 1) % 65536) _ (length_marked_unless map writes at ∙ size))
 
   module _ (memory : List ℕ) where
-    blocks-stays : (n at : ℕ) (map : List ℕ) → length map ≡ 8192 → Stays map (blocks n at memory writes map)
+    blocks_stays : (n at : ℕ) (map : List ℕ) → length map ≡ 8192 → Stays map (blocks n at memory writes map)
     unfolding blocks
-    blocks-stays zero at map size = itself map
-    blocks-stays (suc n) at map size =
-        let nine = fetched-stays 9 at map size in
+    blocks_stays zero at map size = itself map
+    blocks_stays (suc n) at map size =
+        let nine = fetched_stays 9 at map size in
         either (slice_index memory at % 2 == 1) nine
-        (then nine (blocks-stays n ((at + 9) % 65536) _ (length_fetched 9 at writes map ∙ size)))
+        (then nine (blocks_stays n ((at + 9) % 65536) _ (length_fetched 9 at writes map ∙ size)))
 
     pub sample_stays : (directory number : ℕ) (map : List ℕ) → length map ≡ 8192 → Stays map (sample directory number memory writes map)
     unfolding sample
     sample_stays directory number map size =
         let entry = length_fetched 4 (entry_of directory number) writes map ∙ size in
-        then (then (fetched-stays 4 _ map size) (blocks-stays 65536 _ _ entry))
-        (blocks-stays 65536 _ _ (length_blocks memory writes 65536 _ _ ∙ entry))
+        then (then (fetched_stays 4 _ map size) (blocks_stays 65536 _ _ entry))
+        (blocks_stays 65536 _ _ (length_blocks memory writes 65536 _ _ ∙ entry))
 
     pub voices_stays : (chip : List ℕ) (n voice bits : ℕ) (map : List ℕ) → length map ≡ 8192
         → Stays map (voices n voice bits chip memory writes map)

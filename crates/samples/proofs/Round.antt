@@ -11,7 +11,7 @@ use Rattle.std.proofs.lemmas.List.{set-get_or}
 use Rattle.marks.specs.Maps.{is_marked, marked, marked_unless}
 use Rattle.samples.specs.Fetched.{fetched, blocks}
 use Rattle.samples.specs.Addresses.{is_last, NoneLast, InBlocks}
-use Rattle.samples.specs.Exact.{adds_blocks, next_block, none_last}
+use Rattle.samples.proofs.Exact.{adds_blocks, next_block, none_last}
 
 -- ---- nine is odd
 
@@ -39,32 +39,32 @@ module _ (writes : List ℕ) where
     all : (k : ℕ) → k < 65536 → (is_marked map k ≡ true) ⊎ (is_marked writes k ≡ true)
 
   module _ (map : List ℕ) (full : Full map) where
-    unless-again : (at : ℕ) → at < 65536 → marked_unless map writes at ≡ map
-    unless-again at h = ⊎_elim (λ e. go (is_marked writes at) e) (λ e. rw e) (full.all at h)
+    unless_again : (at : ℕ) → at < 65536 → marked_unless map writes at ≡ map
+    unless_again at h = ⊎_elim (λ e. go (is_marked writes at) e) (λ e. rw e) (full.all at h)
       where
         go : (b : Bool) → is_marked map at ≡ true → cond b map (marked map at) ≡ map
         go true e = refl
         go false e = marked_again map at e
 
-    fetched-again : (n at : ℕ) → at < 65536 → fetched n at writes map ≡ map
+    fetched_again : (n at : ℕ) → at < 65536 → fetched n at writes map ≡ map
     unfolding fetched
-    fetched-again zero at h = refl
-    fetched-again (suc n) at h = rw (unless-again at h) (fetched-again n ((at + 1) % 65536) (omega arith))
+    fetched_again zero at h = refl
+    fetched_again (suc n) at h = rw (unless_again at h) (fetched_again n ((at + 1) % 65536) (omega arith))
 
-    blocks-again : (memory : List ℕ) (n at : ℕ) → at < 65536 → blocks n at memory writes map ≡ map
+    blocks_again : (memory : List ℕ) (n at : ℕ) → at < 65536 → blocks n at memory writes map ≡ map
     unfolding blocks
-    blocks-again memory zero at h = refl
-    blocks-again memory (suc n) at h =
-        rw (fetched-again 9 at h, blocks-again memory n ((at + 9) % 65536) (omega arith)) (go (is_last memory at))
+    blocks_again memory zero at h = refl
+    blocks_again memory (suc n) at h =
+        rw (fetched_again 9 at h, blocks_again memory n ((at + 9) % 65536) (omega arith)) (go (is_last memory at))
       where
         go : (b : Bool) → cond b map map ≡ map
         go true = refl
         go false = refl
 
   module _ (memory : List ℕ) where
-    full-round : (n start : ℕ) (map : List ℕ) → n ≡ 65536 → start < 65536 → length map ≡ 8192 → NoneLast memory n start
+    full_round : (n start : ℕ) (map : List ℕ) → n ≡ 65536 → start < 65536 → length map ≡ 8192 → NoneLast memory n start
         → Full (blocks n start memory writes map)
-    full-round n start map is a size on = record { all = λ k h. go k h (is_marked writes k) refl }
+    full_round n start map is a size on = record { all = λ k h. go k h (is_marked writes k) refl }
       where
         there : (k : ℕ) → k < 65536 → InBlocks memory n start k
         there k h = record {
@@ -104,5 +104,5 @@ module _ (writes : List ℕ) where
         → blocks (n + m) start memory writes map ≡ blocks n start memory writes map
     no_more n m start map is a size =
         ⊎_elim (λ e. e)
-        (λ p. p.1 ∙ blocks-again _ (full-round n start map is a size p.0) memory m ((start + 9 * n) % 65536) (omega arith))
+        (λ p. p.1 ∙ blocks_again _ (full_round n start map is a size p.0) memory m ((start + 9 * n) % 65536) (omega arith))
         (further n m start map a)
