@@ -72,7 +72,7 @@ jumps_and_calls-requires c =
     elim c.in_default.branch [
       | in_default-via-then-this-lt16 w ↦ search (left_test others 8 16 (in_column 15) tt)
       | in_default-via-else-this-lt16+else-this-lt24+else-this-lt26 w ↦
-        search (low_five, left_test others 26 32 (in_column 15) tt)
+          search (low_five, left_test others 26 32 (in_column 15) tt)
     ]
 
 pub returns-in-2 : goal.returns-in-2
@@ -108,7 +108,7 @@ returns-in-4-to-7 c =
     elim c.in-4-to-7-1.branch [
       | then-this-lt8 w ↦ search (rules, left_row others 0 8 (family accumulator_group) accumulators.0)
       | else-this-lt8+else-this-lt16+then-this-lt24 w ↦
-        search (left_row others 16 24 (family accumulator_group) accumulators.1)
+          search (left_row others 16 24 (family accumulator_group) accumulators.1)
     ]
 
 pub returns-in-9 : goal.returns-in-9
@@ -116,5 +116,5 @@ returns-in-9 c =
     elim c.in-9-1.branch [
       | in-9-1 w ↦ search (named_row (9 ∷ []) (family pair_group) paired.0)
       | in_default+else-this-lt8+else-this-lt16+else-this-lt24+then-this-lt26 w ↦
-        search (left_row others 24 26 (family pair_group) paired.1)
+          search (left_row others 24 26 (family pair_group) paired.1)
     ]
