@@ -81,15 +81,15 @@ ran_on packet = run_answer (edition_in packet) (budget_in packet) (whole_of (reg
 
 module _ (packet : List ℕ) (a : Accepted packet) where
   -- An accepted packet holds memory and maps of the right lengths, so the engine does not refuse its run.
-  start-sized : Sized (world_in packet)
-  start-sized = record {
+  start_sized : Sized (world_in packet)
+  start_sized = record {
     memory = part_size 64 65536 packet a.size (omega arith);
     reads = part_size 131136 8192 packet a.size (omega arith);
     writes = part_size 139328 8192 packet a.size (omega arith);
   }
 
   none_refused : refusal_of (edition_in packet) (world_in packet) ≡ 0
-  none_refused = accepts (edition_in packet) (world_in packet) a.named start-sized
+  none_refused = accepts (edition_in packet) (world_in packet) a.named start_sized
 
   pub ran_is : ran_on packet ≡ accepted (steps_of packet)
   ran_is = rw (eq-eqb _ _ none_refused)
@@ -110,7 +110,7 @@ module _ (packet : List ℕ) (a : Accepted packet) where
   pub left_sized : Sized (run_on packet).left
   left_sized =
       subst (λ (w : World). Sized w) (sym left_is)
-      (run_keeps (edition_of (edition_in packet)) (budget_in packet) (whole_of (registers_in packet)) (world_in packet) start-sized).sized
+      (run_keeps (edition_of (edition_in packet)) (budget_in packet) (whole_of (registers_in packet)) (world_in packet) start_sized).sized
 
 -- ---- a packet by its parts
 
@@ -126,36 +126,36 @@ record Parts (head memory image reads writes kept row : List ℕ) : Type 0 where
 
 -- Each part is found in its place.
 module _ {head memory image reads writes kept row : List ℕ} (p : Parts head memory image reads writes kept row) where
-  memory-part : memory_in row ≡ memory
-  memory-part =
+  memory_part : memory_in row ≡ memory
+  memory_part =
       part_of 64 65536 row head memory (image ++ (reads ++ (writes ++ kept))) (p.is ∙ simp append_assoc) p.of_head p.of_memory
 
-  image-part : image_in row ≡ image
-  image-part =
+  image_part : image_in row ≡ image
+  image_part =
       part_of 65600 65536 row (head ++ memory) image (reads ++ (writes ++ kept)) (p.is ∙ simp append_assoc)
       (rw length-append (omega (arith, p.of_head, p.of_memory)))
       p.of_image
 
-  reads-part : reads_in row ≡ reads
-  reads-part =
+  reads_part : reads_in row ≡ reads
+  reads_part =
       part_of 131136 8192 row (head ++ memory ++ image) reads (writes ++ kept) (p.is ∙ simp append_assoc)
       (simp length-append (omega (arith, p.of_head, p.of_memory, p.of_image)))
       p.of_reads
 
-  writes-part : writes_in row ≡ writes
-  writes-part =
+  writes_part : writes_in row ≡ writes
+  writes_part =
       part_of 139328 8192 row (head ++ memory ++ image ++ reads) writes kept p.is
       (simp length-append (omega (arith, p.of_head, p.of_memory, p.of_image, p.of_reads)))
       p.of_writes
 
-  kept-part : kept_in row ≡ kept
-  kept-part =
+  kept_part : kept_in row ≡ kept
+  kept_part =
       part_of 147520 8192 row (head ++ memory ++ image ++ reads ++ writes) kept [] (p.is ∙ sym (append-nil _))
       (simp length-append (omega (arith, p.of_head, p.of_memory, p.of_image, p.of_reads, p.of_writes)))
       p.of_kept
 
-  row-size : length row ≡ 155712
-  row-size =
+  row_size : length row ≡ 155712
+  row_size =
       rw p.is
       (simp length-append (omega (arith, p.of_head, p.of_memory, p.of_image, p.of_reads, p.of_writes, p.of_kept)))
 
@@ -217,11 +217,11 @@ module _ (packet : List ℕ) where
       (blanked_image (keeps_of packet) (byte_in packet) (image_in packet)) (run_on packet).left.reads (run_on packet).left.writes
       (keeps_of packet)
 
-  behind-asked : answered packet ≡ take 6 packet ++ (told_of ++ further)
-  behind-asked = by_parts ∙ append_assoc (take 6 packet) told_of further
+  behind_asked : answered packet ≡ take 6 packet ++ (told_of ++ further)
+  behind_asked = by_parts ∙ append_assoc (take 6 packet) told_of further
 
-  as-told : length told_of ≡ 31
-  as-told =
+  as_told : length told_of ≡ 31
+  as_told =
       told_size (run_on packet).result.ran (counts_of (run_on packet).left.reads (run_on packet).left.writes) (unmarked (keeps_of packet))
       (bit_or (devices_in packet) (run_on packet).result.devices)
 
@@ -229,31 +229,31 @@ module _ (packet : List ℕ) where
     six : length (take 6 packet) ≡ 6
     six = length-take-le 6 packet (omega (arith, a.size))
 
-    head-size : length (head_of packet) ≡ 64
+    head_size : length (head_of packet) ≡ 64
     unfolding head_of whole_bytes_of bytes_of
-    head-size = simp length-append (omega (arith, six, part_size 37 27 packet a.size (omega arith)))
+    head_size = simp length-append (omega (arith, six, part_size 37 27 packet a.size (omega arith)))
 
     pub kept_size : length (keeps_of packet) ≡ 8192
     kept_size =
         together_size (run_on packet).left.reads (kept_in packet) (left_sized packet a).reads
         (part_size 147520 8192 packet a.size (omega arith))
 
-    image-size : length (blanked_image (keeps_of packet) (byte_in packet) (image_in packet)) ≡ 65536
-    image-size =
+    image_size : length (blanked_image (keeps_of packet) (byte_in packet) (image_in packet)) ≡ 65536
+    image_size =
         length_blanked (keeps_of packet) (byte_in packet) (image_in packet) ∙ part_size 65600 65536 packet a.size (omega arith)
 
     -- What was asked stays.
     pub asked_stays : (at : ℕ) → at < 6 → get_or (answered packet) at 0 ≡ get_or packet at 0
     asked_stays at h =
-        ap (λ (l : List ℕ). get_or l at 0) behind-asked
+        ap (λ (l : List ℕ). get_or l at 0) behind_asked
         ∙ get_or-append (take 6 packet) (told_of ++ further) 0 at (omega (arith, six))
         ∙ get_or-take 6 packet at 0 h
 
     byte_of : (n : ℕ) → n < 31 → get_or (answered packet) (6 + n) 0 ≡ get_or told_of n 0
     byte_of n h =
-        ap (λ (l : List ℕ). get_or l (6 + n) 0) behind-asked
+        ap (λ (l : List ℕ). get_or l (6 + n) 0) behind_asked
         ∙ behind (take 6 packet) (told_of ++ further) n six
-        ∙ get_or-append told_of further 0 n (omega (arith, as-told))
+        ∙ get_or-append told_of further 0 n (omega (arith, as_told))
 
     number_of : (n : ℕ) → n + 3 < 31 → number_at (6 + n) (answered packet) ≡ number_at n told_of
     number_of = number_behind (answered packet) told_of 31 byte_of
@@ -262,9 +262,9 @@ module _ (packet : List ℕ) where
     pub registers_are : registers_in (answered packet) ≡ whole_bytes_of (run_on packet).result.ran.cpu
     unfolding told whole_bytes_of bytes_of
     registers_are =
-        ap (bytes_at 6 8) behind-asked
+        ap (bytes_at 6 8) behind_asked
         ∙ ap (take 8) (drop_at (take 6 packet) (told_of ++ further) 6 six)
-        ∙ take-append-le 8 told_of further (omega (arith, as-told))
+        ∙ take-append-le 8 told_of further (omega (arith, as_told))
 
     pub stop_is : stop_in (answered packet) ≡ (run_on packet).result.ran.stop
     unfolding told whole_bytes_of bytes_of
@@ -300,9 +300,9 @@ module _ (packet : List ℕ) where
     unfolding answered
     in_parts = record {
       is = refl;
-      of_head = head-size;
+      of_head = head_size;
       of_memory = (left_sized packet a).memory;
-      of_image = image-size;
+      of_image = image_size;
       of_reads = (left_sized packet a).reads;
       of_writes = (left_sized packet a).writes;
       of_kept = kept_size;
@@ -310,20 +310,20 @@ module _ (packet : List ℕ) where
 
     -- The memory and both maps are what the run leaves; the image is blanked by what is to stay, and the last map says what that is.
     pub memory_is : memory_in (answered packet) ≡ (run_on packet).left.memory
-    memory_is = memory-part in_parts
+    memory_is = memory_part in_parts
 
     pub reads_are : reads_in (answered packet) ≡ (run_on packet).left.reads
-    reads_are = reads-part in_parts
+    reads_are = reads_part in_parts
 
     pub writes_are : writes_in (answered packet) ≡ (run_on packet).left.writes
-    writes_are = writes-part in_parts
+    writes_are = writes_part in_parts
 
     pub image_is : image_in (answered packet) ≡ blanked_image (keeps_of packet) (byte_in packet) (image_in packet)
-    image_is = image-part in_parts
+    image_is = image_part in_parts
 
     pub kept_is : kept_in (answered packet) ≡ keeps_of packet
-    kept_is = kept-part in_parts
+    kept_is = kept_part in_parts
 
     -- It has as many bytes as the packet.
     pub answer_size : length (answered packet) ≡ 155712
-    answer_size = row-size in_parts
+    answer_size = row_size in_parts

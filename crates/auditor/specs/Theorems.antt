@@ -89,26 +89,26 @@ devices_on packet = devices_read (edition_of (edition_in packet)) (budget_in pac
 
 -- What an answer tells of the run, as the definition of the instructions makes it.
 module _ (packet : List ℕ) (a : Accepted packet) where
-  registers-of : registers_in (answered packet) ≡ whole_bytes_of (steps_of packet).result.regs
-  registers-of = registers_are packet a ∙ ap (λ (r : Ran). whole_bytes_of r.cpu) (answer_is packet a)
+  registers_of : registers_in (answered packet) ≡ whole_bytes_of (steps_of packet).result.regs
+  registers_of = registers_are packet a ∙ ap (λ (r : Ran). whole_bytes_of r.cpu) (answer_is packet a)
 
-  stop-of : stop_in (answered packet) ≡ number_of (steps_of packet).result.regs.state
-  stop-of = stop_is packet a ∙ ap (λ (r : Ran). r.stop) (answer_is packet a)
+  stop_of : stop_in (answered packet) ≡ number_of (steps_of packet).result.regs.state
+  stop_of = stop_is packet a ∙ ap (λ (r : Ran). r.stop) (answer_is packet a)
 
-  steps-of : steps_in (answered packet) ≡ (steps_of packet).result.steps
-  steps-of = steps_are packet a ∙ ap (λ (r : Ran). r.steps) (answer_is packet a)
+  steps_told : steps_in (answered packet) ≡ (steps_of packet).result.steps
+  steps_told = steps_are packet a ∙ ap (λ (r : Ran). r.steps) (answer_is packet a)
 
-  memory-of : memory_in (answered packet) ≡ (steps_of packet).left.memory
-  memory-of = memory_is packet a ∙ ap (λ (w : World). w.memory) (left_is packet a)
+  memory_of : memory_in (answered packet) ≡ (steps_of packet).left.memory
+  memory_of = memory_is packet a ∙ ap (λ (w : World). w.memory) (left_is packet a)
 
   reads_of : reads_in (answered packet) ≡ (steps_of packet).left.reads
   reads_of = reads_are packet a ∙ ap (λ (w : World). w.reads) (left_is packet a)
 
-  writes-of : writes_in (answered packet) ≡ (steps_of packet).left.writes
-  writes-of = writes_are packet a ∙ ap (λ (w : World). w.writes) (left_is packet a)
+  writes_of : writes_in (answered packet) ≡ (steps_of packet).left.writes
+  writes_of = writes_are packet a ∙ ap (λ (w : World). w.writes) (left_is packet a)
 
-  devices-of : devices_in (answered packet) ≡ bit_or (devices_in packet) (devices_on packet)
-  devices-of = devices_in_answer packet a ∙ ap (bit_or (devices_in packet)) (devices_are packet a)
+  devices_of : devices_in (answered packet) ≡ bit_or (devices_in packet) (devices_on packet)
+  devices_of = devices_in_answer packet a ∙ ap (bit_or (devices_in packet)) (devices_are packet a)
 
 -- A world is known by its memory and its maps.
 world_is : {memory reads writes : List ℕ} (w : World) → memory ≡ w.memory → reads ≡ w.reads → writes ≡ w.writes
@@ -137,20 +137,20 @@ module _ (packet next : List ℕ) (a : Accepted packet) (on : AsksOn packet next
   pub next_accepted : Accepted next
   next_accepted = record {
     size = on.size;
-    whole = ap is_whole (on.registers ∙ registers-of packet a) ∙ bytes_whole (steps_of packet).result.regs;
+    whole = ap is_whole (on.registers ∙ registers_of packet a) ∙ bytes_whole (steps_of packet).result.regs;
     named = ap is_edition on.edition ∙ a.named;
   }
 
   -- Its run goes on from the registers and the world that the first has left;
-  next-regs : whole_of (registers_in next) ≡ (steps_of packet).result.regs
-  next-regs = ap whole_of (on.registers ∙ registers-of packet a) ∙ record_to_whole_and_back (steps_of packet).result.regs
+  next_regs : whole_of (registers_in next) ≡ (steps_of packet).result.regs
+  next_regs = ap whole_of (on.registers ∙ registers_of packet a) ∙ record_to_whole_and_back (steps_of packet).result.regs
 
-  next-world : world_in next ≡ (steps_of packet).left
-  next-world =
-      world_is (steps_of packet).left (on.memory ∙ memory-of packet a) (on.reads ∙ reads_of packet a) (on.writes ∙ writes-of packet a)
+  next_world : world_in next ≡ (steps_of packet).left
+  next_world =
+      world_is (steps_of packet).left (on.memory ∙ memory_of packet a) (on.reads ∙ reads_of packet a) (on.writes ∙ writes_of packet a)
 
-  next-steps : steps_of next ≡ run_of (edition_of (edition_in packet)) (budget_in next) (steps_of packet).result.regs (steps_of packet).left
-  next-steps = asked on.edition refl next-regs next-world
+  next_steps : steps_of next ≡ run_of (edition_of (edition_in packet)) (budget_in next) (steps_of packet).result.regs (steps_of packet).left
+  next_steps = asked on.edition refl next_regs next_world
 
   module _ (both : List ℕ) (all : AsksBoth packet next both) where
     pub both_accepted : Accepted both
@@ -158,18 +158,18 @@ module _ (packet next : List ℕ) (a : Accepted packet) (on : AsksOn packet next
         record { size = all.size; whole = ap is_whole all.registers ∙ a.whole; named = ap is_edition all.edition ∙ a.named }
 
     -- so both at once is the one and then the other.
-    both-steps : steps_of both ≡ joined (steps_of packet) (steps_of next)
-    both-steps =
+    both_steps : steps_of both ≡ joined (steps_of packet) (steps_of next)
+    both_steps =
         asked all.edition all.budget (ap whole_of all.registers)
         (world_is (world_in packet) all.memory all.reads all.writes)
         ∙ in_parts (edition_of (edition_in packet)) (budget_in packet) (budget_in next) (whole_of (registers_in packet)) (world_in packet)
-        ∙ ap (joined (steps_of packet)) (sym next-steps)
+        ∙ ap (joined (steps_of packet)) (sym next_steps)
 
-    both-devices : devices_on both ≡ bit_or (devices_on packet) (devices_on next)
-    both-devices =
+    both_devices : devices_on both ≡ bit_or (devices_on packet) (devices_on next)
+    both_devices =
         watched all.edition all.budget (ap whole_of all.registers) all.memory
         ∙ devices_in_parts (edition_of (edition_in packet)) (budget_in packet) (budget_in next) (whole_of (registers_in packet)) (world_in packet)
-        ∙ ap (bit_or (devices_on packet)) (sym (watched on.edition refl next-regs (on.memory ∙ memory-of packet a)))
+        ∙ ap (bit_or (devices_on packet)) (sym (watched on.edition refl next_regs (on.memory ∙ memory_of packet a)))
 
     -- A run in parts is one run.
     pub run_in_parts : InParts packet next both
@@ -177,21 +177,21 @@ module _ (packet next : List ℕ) (a : Accepted packet) (on : AsksOn packet next
         let n = next_accepted in
         let b = both_accepted in
         record {
-          registers = registers-of next n ∙ sym (registers-of both b ∙ ap (λ (o : Made). whole_bytes_of o.result.regs) both-steps);
-          memory = memory-of next n ∙ sym (memory-of both b ∙ ap (λ (o : Made). o.left.memory) both-steps);
-          reads = reads_of next n ∙ sym (reads_of both b ∙ ap (λ (o : Made). o.left.reads) both-steps);
-          writes = writes-of next n ∙ sym (writes-of both b ∙ ap (λ (o : Made). o.left.writes) both-steps);
+          registers = registers_of next n ∙ sym (registers_of both b ∙ ap (λ (o : Made). whole_bytes_of o.result.regs) both_steps);
+          memory = memory_of next n ∙ sym (memory_of both b ∙ ap (λ (o : Made). o.left.memory) both_steps);
+          reads = reads_of next n ∙ sym (reads_of both b ∙ ap (λ (o : Made). o.left.reads) both_steps);
+          writes = writes_of next n ∙ sym (writes_of both b ∙ ap (λ (o : Made). o.left.writes) both_steps);
           devices =
-              devices-of next n
-              ∙ ap (λ (d : ℕ). bit_or d (devices_on next)) (on.devices ∙ devices-of packet a)
+              devices_of next n
+              ∙ ap (λ (d : ℕ). bit_or d (devices_on next)) (on.devices ∙ devices_of packet a)
               ∙ or_assoc (devices_in packet) (devices_on packet) (devices_on next)
-              ∙ ap (bit_or (devices_in packet)) (sym both-devices)
-              ∙ sym (devices-of both b ∙ ap (λ (d : ℕ). bit_or d (devices_on both)) all.devices);
-          stop = stop-of next n ∙ sym (stop-of both b ∙ ap (λ (o : Made). number_of o.result.regs.state) both-steps);
+              ∙ ap (bit_or (devices_in packet)) (sym both_devices)
+              ∙ sym (devices_of both b ∙ ap (λ (d : ℕ). bit_or d (devices_on both)) all.devices);
+          stop = stop_of next n ∙ sym (stop_of both b ∙ ap (λ (o : Made). number_of o.result.regs.state) both_steps);
           steps =
-              ap (λ (k : ℕ). k + steps_in (answered next)) (steps-of packet a)
-              ∙ ap (λ (k : ℕ). (steps_of packet).result.steps + k) (steps-of next n)
-              ∙ sym (steps-of both b ∙ ap (λ (o : Made). o.result.steps) both-steps);
+              ap (λ (k : ℕ). k + steps_in (answered next)) (steps_told packet a)
+              ∙ ap (λ (k : ℕ). (steps_of packet).result.steps + k) (steps_told next n)
+              ∙ sym (steps_told both b ∙ ap (λ (o : Made). o.result.steps) both_steps);
         }
 
     -- Who asks on from the second answer asks on from the one answer, too: so a run in any number of parts is one run.
@@ -250,8 +250,8 @@ module _ (whole last second : List ℕ) (w : Accepted whole) (l : Accepted last)
       ∙ sym (image_is last l)
 
   -- so the image that is handed back gives the same run.
-  handed-back : Same (image_in last) (image_in (answered last)) (ran_on whole) (ran_on second)
-  handed-back =
+  handed_back : Same (image_in last) (image_in (answered last)) (ran_on whole) (ran_on second)
+  handed_back =
       let cpu = whole_of (registers_in whole) in
       let run = answer_to (edition_in whole) (budget_in whole) cpu in
       let same = same_answer (edition_in whole) (budget_in whole) cpu (image_in last) (keeps_of last) (byte_in last) marks_stay in
@@ -264,7 +264,7 @@ module _ (packet : List ℕ) (a : Accepted packet) (begins : Begins packet) wher
   -- every other address each run leaves its own image's byte. That holds whatever the kept map is.
   pub same_run : image_in packet ≡ memory_in packet → (second : List ℕ) → AsksAgain packet (image_in (answered packet)) second
       → Same (image_in packet) (image_in (answered packet)) (ran_on packet) (ran_on second)
-  same_run image second again = handed-back packet packet second a a begins image refl again
+  same_run image second again = handed_back packet packet second a a begins image refl again
 
   -- So does that of the last part of a run, if it has blanked the image with which the first part began: in place of the run in parts
   -- stands the one run that both are.
@@ -272,7 +272,7 @@ module _ (packet : List ℕ) (a : Accepted packet) (begins : Begins packet) wher
       → AsksAgain both (image_in (answered next)) second
       → Same (image_in next) (image_in (answered next)) (ran_on both) (ran_on second)
   same_run_in_parts next both second on all image again =
-      handed-back both next second (both_accepted packet next a on both all) (next_accepted packet next a on)
+      handed_back both next second (both_accepted packet next a on both all) (next_accepted packet next a on)
       (record { reads = all.reads ∙ begins.reads; writes = all.writes ∙ begins.writes })
       (image ∙ sym all.memory)
       (run_in_parts packet next a on both all).reads

@@ -30,11 +30,11 @@ up_to_the_end packet bytes p b =
     rw (room, none) (append-nil (take 64 packet ++ bytes))
 
 module _ (packet : List ℕ) (size : length packet ≡ 155712) (ran : Ran) (counted : Counted) (blanked devices : ℕ) where
-  head-told :
+  head_told :
       take 64 (sets packet 6 (told ran counted blanked devices))
       ≡ take 6 packet ++ told ran counted blanked devices ++ take 27 (drop 37 packet)
   unfolding told whole_bytes_of bytes_of
-  head-told = front packet (told ran counted blanked devices) 6 27 (omega arith)
+  head_told = front packet (told ran counted blanked devices) 6 27 (omega arith)
 
 all_parts : (packet memory image reads writes kept : List ℕ) {watched : Watched} {blanked : ℕ} {after : List ℕ}
     → outcome watched (world memory reads writes) ≡ run_on packet → Keeping packet reads image kept blanked
@@ -56,7 +56,7 @@ all_parts packet memory image reads writes kept {watched} {blanked} e keeping a 
     a
     ∙ up_to_the_end headed behind (length-sets packet 6 (told ran counted blanked devices) ∙ p) rest
     ∙ rw (
-      head-told packet p ran counted blanked devices,
+      head_told packet p ran counted blanked devices,
       by_parts packet,
       ← ran_is,
       ← devices-is,

@@ -14,9 +14,9 @@ use Rattle.auditor.specs.Audit.{refusal_of}
 use Rattle.auditor.proofs.refusal_of.Goals as goal
 
 module _ (packet : List ℕ) where
-  wrong-length : (length packet ≡ 155712 → ⊥) → 6 ≡ refusal_of packet
+  wrong_length : (length packet ≡ 155712 → ⊥) → 6 ≡ refusal_of packet
   unfolding refusal_of
-  wrong-length n = rw (ne_eqb _ _ n)
+  wrong_length n = rw (ne_eqb _ _ n)
 
   module _ (size : length packet ≡ 155712) {whole : Bool} (is : whole ≡ is_whole (registers_in packet)) where
     not_whole : not whole ≡ true → 6 ≡ refusal_of packet
@@ -27,22 +27,22 @@ module _ (packet : List ℕ) where
       all : is_whole (registers_in packet) ≡ true
       all = sym is ∙ not-false whole t
 
-      no-edition : not known ≡ true → 9 ≡ refusal_of packet
+      no_edition : not known ≡ true → 9 ≡ refusal_of packet
       unfolding refusal_of
-      no-edition n = let none = sym e ∙ not-true known n in rw (eq-eqb _ _ size, all, none)
+      no_edition n = let none = sym e ∙ not-true known n in rw (eq-eqb _ _ size, all, none)
 
       nothing : not known ≡ false → 0 ≡ refusal_of packet
       unfolding refusal_of
       nothing n = let one = sym e ∙ not-false known n in rw (eq-eqb _ _ size, all, one)
 
 pub returns-then-packet-ne155712 : goal.returns-then-packet-ne155712
-returns-then-packet-ne155712 c = search (rules, wrong-length)
+returns-then-packet-ne155712 c = search (rules, wrong_length)
 
 pub returns-then-not-is_whole : goal.returns-then-not-is_whole
 returns-then-not-is_whole c = search (rules, not_whole)
 
 pub returns-then-not-is_edition : goal.returns-then-not-is_edition
-returns-then-not-is_edition c = search (rules, no-edition)
+returns-then-not-is_edition c = search (rules, no_edition)
 
 pub returns : goal.returns
 returns c = search (rules, nothing)

@@ -17,20 +17,20 @@ use Rattle.auditor.proofs.keep.keep.Goals as goal
 
 module _ (packet reads image₀ kept₀ : List ℕ) (p : length packet ≡ 155712) (s : length reads ≡ 8192)
     (t : length image₀ ≡ 65536) (u : length kept₀ ≡ 8192) where
-  marks-of-both : length (together reads (kept_in packet)) ≡ 8192
-  marks-of-both = together_size reads (kept_in packet) s (length-take-le 8192 (drop 147520 packet) (rw length-drop (omega arith)))
+  marks_of_both : length (together reads (kept_in packet)) ≡ 8192
+  marks_of_both = together_size reads (kept_in packet) s (length-take-le 8192 (drop 147520 packet) (rw length-drop (omega arith)))
 
-  image-size : length (image_in packet) ≡ 65536
-  image-size = length-take-le 65536 (drop 65600 packet) (rw length-drop (omega arith))
+  image_size : length (image_in packet) ≡ 65536
+  image_size = length-take-le 65536 (drop 65600 packet) (rw length-drop (omega arith))
 
-  kept-and-blanked : {image kept both after : List ℕ} {r : Blanked}
+  kept_and_blanked : {image kept both after : List ℕ} {r : Blanked}
       → kept ≡ bytes_at 147520 (length kept₀) packet → both ≡ together reads kept
       → image ≡ bytes_at 65600 (length image₀) packet → filled r after ≡ blank_of both (byte_in packet) image
       → Keeping packet reads after both r.blanked
-  kept-and-blanked {both = both} k j i e =
+  kept_and_blanked {both = both} k j i e =
       let is : both ≡ together reads (kept_in packet) = j ∙ rw (k, u) in
       let own = rw t at i in
-      let taken = not_refused (together reads (kept_in packet)) (byte_in packet) (image_in packet) marks-of-both image-size in
+      let taken = not_refused (together reads (kept_in packet)) (byte_in packet) (image_in packet) marks_of_both image_size in
       let done = (rw (is, own) at e) ∙ taken in
       record { stays = is; left = ap (λ (f : Filled Blanked). f.left) done; count = ap (λ (f : Filled Blanked). f.answer.blanked) done }
 
@@ -38,5 +38,5 @@ pub returns : goal.returns
 returns c =
     let a = c.args in
     let r = c.requires in
-    kept-and-blanked a.packet.now a.reads.now a.image.now a.kept.now r.of_packet r.of_reads r.of_image r.of_kept
+    kept_and_blanked a.packet.now a.reads.now a.image.now a.kept.now r.of_packet r.of_reads r.of_image r.of_kept
     c.fill.ensures c.join.ensures c.fill-2.ensures c.blank-blanked.ensures
