@@ -95,8 +95,8 @@ module _ (packet : List ℕ) (a : Accepted packet) where
   stop_of : stop_in (answered packet) ≡ number_of (steps_of packet).result.regs.state
   stop_of = stop_is packet a ∙ ap (λ (r : Ran). r.stop) (answer_is packet a)
 
-  steps-of : steps_in (answered packet) ≡ (steps_of packet).result.steps
-  steps-of = steps_are packet a ∙ ap (λ (r : Ran). r.steps) (answer_is packet a)
+  steps_told : steps_in (answered packet) ≡ (steps_of packet).result.steps
+  steps_told = steps_are packet a ∙ ap (λ (r : Ran). r.steps) (answer_is packet a)
 
   memory_of : memory_in (answered packet) ≡ (steps_of packet).left.memory
   memory_of = memory_is packet a ∙ ap (λ (w : World). w.memory) (left_is packet a)
@@ -189,9 +189,9 @@ module _ (packet next : List ℕ) (a : Accepted packet) (on : AsksOn packet next
               ∙ sym (devices_of both b ∙ ap (λ (d : ℕ). bit_or d (devices_on both)) all.devices);
           stop = stop_of next n ∙ sym (stop_of both b ∙ ap (λ (o : Made). number_of o.result.regs.state) both_steps);
           steps =
-              ap (λ (k : ℕ). k + steps_in (answered next)) (steps-of packet a)
-              ∙ ap (λ (k : ℕ). (steps_of packet).result.steps + k) (steps-of next n)
-              ∙ sym (steps-of both b ∙ ap (λ (o : Made). o.result.steps) both_steps);
+              ap (λ (k : ℕ). k + steps_in (answered next)) (steps_told packet a)
+              ∙ ap (λ (k : ℕ). (steps_of packet).result.steps + k) (steps_told next n)
+              ∙ sym (steps_told both b ∙ ap (λ (o : Made). o.result.steps) both_steps);
         }
 
     -- Who asks on from the second answer asks on from the one answer, too: so a run in any number of parts is one run.

@@ -185,17 +185,17 @@ differences_short touch first second = answer_short touch (stretches_of first se
 each_short : (input : List ℕ) → Short (survey_of input)
 unfolding survey_of
 each_short input =
-    either_short (eqb (length input) 8192) of-map
-    (either_short (eqb (length input) 131072) of-memories (either_short (eqb (length input) 139264) of-all refused))
+    either_short (eqb (length input) 8192) map_short
+    (either_short (eqb (length input) 131072) memories_short (either_short (eqb (length input) 139264) all_short refused))
   where
-    of-map : Short (of_map input)
-    of-map = answer_short false (marked_stretches input) (at_most input)
+    map_short : Short (of_map input)
+    map_short = answer_short false (marked_stretches input) (at_most input)
 
-    of-memories : Short (of_memories input)
-    of-memories = differences_short false (take 65536 input) (drop 65536 input)
+    memories_short : Short (of_memories input)
+    memories_short = differences_short false (take 65536 input) (drop 65536 input)
 
-    of-all : Short (of_all input)
-    of-all =
+    all_short : Short (of_all input)
+    all_short =
         let first = take 65536 (drop 8192 input) in
         let second = drop 73728 input in
         differences_short (touched (is_marked (take 8192 input)) (stretches_of first second)) first second

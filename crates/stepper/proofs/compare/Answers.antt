@@ -15,7 +15,7 @@ use Rattle.stepper.proofs.compare.Goals as goal
 
 no_more : (input : List ℕ) {n : ℕ} → length input ≡ 131087 → n ≡ alike (first_of input) (second_of input) → n ≤ 65543
 no_more input size e =
-    let first-size : length (first_of input) ≡ 65543 = rw (length-take 65543 (drop 1 input), length-drop 1 input, size) in
+    let first_size : length (first_of input) ≡ 65543 = rw (length-take 65543 (drop 1 input), length-drop 1 input, size) in
     omega (arith, at_most (first_of input) (second_of input))
 
 printed : (first second : List ℕ) {n : ℕ} {r : Line} → n ≡ alike first second → r ≡ adds blank (comparison_text n)

@@ -1,7 +1,6 @@
 -- The loop passes each of the eight bits once.
 -- Assumes nothing.
 use Prim.Native.Nat.{◌≤◌, ◌-◌}
-use borrow.Author.Rules.{rules}
 use Rattle.replay_steps.proofs.report.eight_reads.Given as goal
 
 abbrev pub invariant-loop-bit : goal.invariant-loop-bit

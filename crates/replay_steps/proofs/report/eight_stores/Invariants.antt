@@ -1,7 +1,6 @@
 -- The loop passes each of the eight bits once; memory keeps its length.
 -- Assumes nothing.
 use Prim.Native.Nat.{◌≤◌, ◌-◌}
-use borrow.Author.Rules.{rules}
 use mathlib.Core.Path.{◌≡◌}
 use lib.ListN.{length}
 use Rattle.replay_steps.proofs.report.eight_stores.Given as goal

@@ -1,7 +1,6 @@
 -- The search goes on from where it begins and ends at the map's end.
 -- Assumes nothing.
 use Prim.Native.Nat.{◌≤◌, ◌-◌}
-use borrow.Author.Rules.{rules}
 use lib.ListN.{length}
 use Rattle.replay_steps.proofs.report.next_marked.Given as goal
 

@@ -1,7 +1,6 @@
 -- The next mark stands behind the last one, so that the loop ends; memory and map keep their lengths.
 -- Assumes nothing.
 use Prim.Native.Nat.{◌-◌}
-use borrow.Author.Rules.{rules}
 use mathlib.Core.Path.{◌≡◌}
 use lib.ListN.{length}
 use Rattle.replay_steps.proofs.report.stores.Given as goal
