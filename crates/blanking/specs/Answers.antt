@@ -17,7 +17,7 @@ use Rattle.engine.specs.Accepted.{sized}
 use Rattle.engine.specs.Provenance.{clear, played, accepted_sized}
 use Rattle.engine.specs.declared.Ran.{Ran}
 use Rattle.blanking.specs.Calls.{blank_of}
-use Rattle.blanking.specs.Theorems.{same_length, same_run_with_more}
+use Rattle.blanking.specs.Theorems.{same_length, run_with_more}
 
 -- Two calls that answer the same and change nothing, on two images with clear maps.
 pub both_refused : {R : Type 0} (image second : List ℕ) (answer : R)
@@ -58,5 +58,5 @@ module _ (number budget : ℕ) (cpu : Processor) where
         go (yes z) =
             let is = in_edition image z in
             rw (is, in_edition (blank_of map byte image).left (as_refused ∙ z))
-            (same_run_with_more (edition_of number) budget cpu image (right_size image z) byte map (rw is at more))
+            (run_with_more (edition_of number) budget cpu image (right_size image z) byte map (rw is at more))
         go (no n) = rw (as_refused, ne_eqb _ _ n) (both_refused image (blank_of map byte image).left _)

@@ -83,6 +83,15 @@ module _ (map : List ℕ) (byte : ℕ) (image : List ℕ) where
 
 -- Of a run in an edition, with a budget and registers, on an image of 65,536 bytes; with any byte.
 module _ (edition : Edition) (budget : ℕ) (cpu : Processor) (image : List ℕ) (size : length image ≡ 65536) (byte : ℕ) where
+  -- What the theorem says that stands next; those that rest on it rest on this.
+  pub run_with_more : (map : List ℕ) → Keeps (read_map edition budget cpu image) map
+      → Same image (blank_of map byte image).left
+      (played edition budget cpu image)
+      (played edition budget cpu (blank_of map byte image).left)
+  run_with_more map more =
+      provenance edition budget cpu image size (blank_of map byte image).left (same_length map byte image ∙ size)
+      (λ k h e. (marked_stay map byte image).equal k h (more.marks k h e))
+
   -- Blanked by any map that has at least the marks of the run's own read map, the image gives the same run in that edition, with that
   -- budget and these registers: the same registers, step count, stop and maps, and equal bytes wherever a step stored; at every other
   -- address each run leaves its own image's byte. A map has more marks where a house adds what the sound chip fetches by itself, or what
@@ -91,16 +100,14 @@ module _ (edition : Edition) (budget : ℕ) (cpu : Processor) (image : List ℕ)
       → Same image (blank_of map byte image).left
       (played edition budget cpu image)
       (played edition budget cpu (blank_of map byte image).left)
-  same_run_with_more map more =
-      provenance edition budget cpu image size (blank_of map byte image).left (same_length map byte image ∙ size)
-      (λ k h e. (marked_stay map byte image).equal k h (more.marks k h e))
+  same_run_with_more map more = run_with_more map more
 
   -- In particular the image that is blanked by the run's own read map gives the same run,
   pub same_run :
       Same image (blank_of (read_map edition budget cpu image) byte image).left
       (played edition budget cpu image)
       (played edition budget cpu (blank_of (read_map edition budget cpu image) byte image).left)
-  same_run = same_run_with_more (read_map edition budget cpu image) (keeps_itself (read_map edition budget cpu image))
+  same_run = run_with_more (read_map edition budget cpu image) (keeps_itself (read_map edition budget cpu image))
 
   -- and to blank by that map is never refused.
   pub own_map_accepted :

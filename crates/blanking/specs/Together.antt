@@ -12,7 +12,7 @@ use Rattle.processor.specs.declared.Processor.{Processor}
 use Rattle.runs.specs.Same.{Same}
 use Rattle.engine.specs.Provenance.{played, read_map}
 use Rattle.blanking.specs.Calls.{blank_of}
-use Rattle.blanking.specs.Theorems.{same_run_with_more}
+use Rattle.blanking.specs.Theorems.{run_with_more}
 
 -- Byte by byte, each byte with the bits of both.
 abbrev pub together : List ℕ → List ℕ → List ℕ
@@ -56,10 +56,10 @@ module _ (image : List ℕ) (size : length image ≡ 65536) (byte : ℕ)
 
   pub serves_first : Same image for_both (played edition budget cpu image) (played edition budget cpu for_both)
   serves_first =
-      same_run_with_more edition budget cpu image size byte _
+      run_with_more edition budget cpu image size byte _
       (keeps_first (read_map edition budget cpu image) (read_map edition₂ budget₂ cpu₂ image))
 
   pub serves_second : Same image for_both (played edition₂ budget₂ cpu₂ image) (played edition₂ budget₂ cpu₂ for_both)
   serves_second =
-      same_run_with_more edition₂ budget₂ cpu₂ image size byte _
+      run_with_more edition₂ budget₂ cpu₂ image size byte _
       (keeps_second (read_map edition budget cpu image) (read_map edition₂ budget₂ cpu₂ image))

@@ -3,3 +3,4 @@ pub mod Back
 pub mod Part
 pub mod Aside
 pub mod Made
+pub mod Theorems

@@ -9,7 +9,7 @@ use native.Mathlib.Omega.{arith}
 use lib.ListN.{length}
 use Rattle.differences.specs.Stretches.{touched}
 use Rattle.differences.specs.Calls.{accepted}
-use Rattle.differences.specs.Theorems.{few}
+use Rattle.differences.proofs.Theorems.{few}
 use Rattle.differences.specs.Walk.{Found, touches_up_to}
 use Rattle.differences.specs.declared.Span.{Span}
 use Rattle.differences.proofs.Rests.{rest, none_found, one_found, one_fewer, end_behind}

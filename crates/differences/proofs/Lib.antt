@@ -3,3 +3,7 @@ pub mod Looks
 pub mod Rests
 pub mod Counting
 pub mod Writing
+pub mod Maximal
+pub mod Theorems
+pub mod Refusals
+pub mod SameRun

@@ -7,7 +7,8 @@ use native.Mathlib.Omega.{arith}
 use lib.ListN.{length}
 use Rattle.differences.specs.Stretches.{Stretch, stretch, stretches_from}
 use Rattle.differences.specs.Calls.{differ}
-use Rattle.differences.specs.Maximal.{MaximalFrom, maximal, only}
+use Rattle.differences.specs.Maximal.{MaximalFrom, only}
+use Rattle.differences.proofs.Maximal.{maximal}
 use Rattle.differences.specs.Walk.{Found}
 use Rattle.differences.specs.declared.Span.{Span}
 

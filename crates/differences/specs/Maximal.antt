@@ -1,5 +1,5 @@
--- What it is for a list to be the maximal stretches of the addresses that pass a test; that the defined list is so, and no other list is:
--- the theorems are `maximal` and `only`, and all else below the definitions is for their proofs.
+-- What it is for a list to be the maximal stretches of the addresses that pass a test, and that no two lists are: the theorem is `only`, and
+-- all else below the definitions is for proofs. That the defined list is so is `maximal` (proofs/Maximal).
 -- Assumes nothing.
 use Prim.Native.Nat.{ℕ, zero, suc, ◌+◌, ◌<◌, ◌≤◌}
 use Rattle.std.specs.Prelude.{Bool, true, false, cond, ◌≡◌, eqb}
@@ -8,7 +8,7 @@ use Rattle.std.proofs.Math.Path.{refl}
 use mathlib.Core.List.{List, [], ◌∷◌}
 use Rattle.std.proofs.Math.Decide.{ℕ_discrete, dec_lt}
 use native.Mathlib.Omega.{arith}
-use Rattle.differences.specs.Stretches.{Stretch, stretch, with_address, stretches_from}
+use Rattle.differences.specs.Stretches.{Stretch, stretch}
 
 -- From one address up to another, which is not counted, a test answers the same throughout.
 pub record Throughout (test : ℕ → Bool) (answer : Bool) (from to : ℕ) : Type 0 where
@@ -45,7 +45,7 @@ module _ {test : ℕ → Bool} {answer : Bool} where
       go k a b (no q) = let there : k ≡ to = omega arith in rw there e
 
   -- one more in front
-  one_before : {from to : ℕ} → Throughout test answer (suc from) to → test from ≡ answer → Throughout test answer from to
+  pub one_before : {from to : ℕ} → Throughout test answer (suc from) to → test from ≡ answer → Throughout test answer from to
   one_before {from} {to} t e = record { ahead = omega (arith, t.ahead); within = t.within; each = λ k a b. go k a b (dec_lt from k) }
     where
       go : (k : ℕ) → from ≤ k → k < to → Dec (from < k) → test k ≡ answer
@@ -64,62 +64,7 @@ pub settled : {P : Type 0} → Dec P → ((P → ⊥) → P) → P
 settled (yes p) f = p
 settled (no n) f = f n
 
--- What holds of either thing holds of the one that is chosen by whether two numbers are equal.
-either : {A : Type 0} (a b : ℕ) {x y : A} (P : A → Type 0) → (a ≡ b → P x) → ((a ≡ b → ⊥) → P y) → P (cond (eqb a b) x y)
-either a b P f g = elim (ℕ_discrete a b) [ yes q ↦ rw (eq-eqb _ _ q) (f q) | no q ↦ rw (ne_eqb _ _ q) (g q) ]
-
 module _ (test : ℕ → Bool) where
-  -- ---- the defined list is so
-
-  passed_by : {at : ℕ} (stretches : List Stretch) → test at ≡ false → MaximalFrom test (suc at) stretches → MaximalFrom test at stretches
-  passed_by [] e m = one_before m e
-  passed_by (s ∷ rest) e m =
-      let next = m.1 in
-      (m.0, record { before = one_before next.before e; throughout = next.throughout; behind = next.behind }, m.2)
-
-  -- an address by itself, in front of an address that does not pass
-  alone : {at : ℕ} (stretches : List Stretch) → at < 65536 → test at ≡ true → (suc at < 65536 → test (suc at) ≡ false)
-      → MaximalFrom test (suc at) stretches → MaximalFrom test at (stretch at at ∷ stretches)
-  alone stretches h e f m = (
-    omega arith,
-    record { before = no_address (omega arith); throughout = one_behind (no_address (omega arith)) h e; behind = f },
-    m,
-  )
-
-  taken_in : {at : ℕ} (stretches : List Stretch) → at < 65536 → test at ≡ true → MaximalFrom test (suc at) stretches
-      → MaximalFrom test at (with_address at stretches)
-  unfolding with_address
-  taken_in {at} [] h e m = alone [] h e (λ k. m.each (suc at) (omega arith) k) m
-  taken_in {at} (s ∷ rest) h e m =
-      either s.first _ (MaximalFrom test at)
-      (λ q. joined (omega (arith, m.1.before.ahead)))
-      (λ q. apart (omega (arith, m.1.before.ahead)))
-    where
-      next : Next test (suc at) s.first (suc s.last)
-      next = m.1
-
-      joined : s.first ≡ suc at → MaximalFrom test at (stretch at s.last ∷ rest)
-      joined q =
-          let on : Throughout test true (suc at) (suc s.last) = rw q at next.throughout in
-          let ahead : suc at ≤ s.last = rw q at m.0 in
-          (omega arith, record { before = no_address (omega arith); throughout = one_before on e; behind = next.behind }, m.2)
-
-      apart : suc at < s.first → MaximalFrom test at (stretch at at ∷ s ∷ rest)
-      apart q = alone (s ∷ rest) h e (λ k. next.before.each (suc at) (omega arith) q) m
-
-  -- The defined list is the maximal stretches of the addresses from one up to 65,536,
-  pub maximal : (n at : ℕ) → at + n ≡ 65536 → MaximalFrom test at (stretches_from test at n)
-  unfolding stretches_from
-  maximal zero at h = let there : at ≡ 65536 = omega arith in rw there (no_address (omega arith))
-  maximal (suc n) at h = go (test at) refl (maximal n (suc at) (omega arith))
-    where
-      behind : List Stretch
-      behind = stretches_from test (suc at) n
-
-      go : (b : Bool) → test at ≡ b → MaximalFrom test (suc at) behind → MaximalFrom test at (cond b (with_address at behind) behind)
-      go true e m = taken_in behind (omega arith) e m
-      go false e m = passed_by behind e m
-
   -- where none passes no stretch begins; and of two next stretches neither begins nor ends before the other
   none_there : {at : ℕ} {s : Stretch} → Throughout test false at 65536 → s.first ≤ s.last → Next test at s.first (suc s.last) → ⊥
   none_there {at} {s} none some next =
@@ -135,7 +80,7 @@ module _ (test : ℕ → Bool) where
   not_shorter {e = e} one other some h =
       both_answers (other.throughout.each e some h) (one.behind (omega (arith, other.throughout.within)))
 
-  -- and there is no other list of which that holds.
+  -- So there are no two lists of which that holds.
   pub only : (at : ℕ) (stretches others : List Stretch) → MaximalFrom test at stretches → MaximalFrom test at others → stretches ≡ others
   only at [] [] m o = refl
   only at [] (t ∷ others) m o = absurd (none_there m o.0 o.1)

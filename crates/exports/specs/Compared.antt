@@ -8,8 +8,8 @@ use Rattle.processor.specs.declared.Processor.{Processor}
 use Rattle.runs.specs.Same.{Same}
 use Rattle.engine.specs.Provenance.{played, read_map}
 use Rattle.differences.specs.Calls.{refusal_of, differences_of}
-use Rattle.differences.specs.Theorems.{few}
-use Rattle.differences.specs.SameRun.{same_run_compared}
+use Rattle.differences.proofs.Theorems.{few}
+use Rattle.differences.proofs.SameRun.{same_run_compared}
 use Rattle.exports.specs.Calls.{differences_number, differences_call}
 use Rattle.exports.specs.Parts.{refusal_part, stop_part}
 

@@ -14,8 +14,8 @@ use Rattle.text.specs.Given.{Given, says}
 use Rattle.text.specs.declared.Written.{Written}
 use Rattle.differences.specs.Stretches.{Stretch}
 use Rattle.differences.specs.Calls.{stretches_of, marks_of, numbers_of, written, lengths_refusal, accepted, differences_of}
-use Rattle.differences.specs.Refused.{room_enough}
-use Rattle.differences.specs.Theorems.{few}
+use Rattle.differences.proofs.Refusals.{room_enough}
+use Rattle.differences.proofs.Theorems.{few}
 use Rattle.differences.specs.Walk.{Pair, Usable}
 use Rattle.differences.specs.declared.Differences.{Differences}
 use Rattle.surveyor.specs.Survey.{in_bytes}

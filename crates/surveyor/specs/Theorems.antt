@@ -13,8 +13,9 @@ use Rattle.text.specs.Quoted.{text}
 use Rattle.text.specs.declared.Written.{Written}
 use Rattle.differences.specs.Stretches.{Stretch, stretch, touched}
 use Rattle.differences.specs.Calls.{differ, stretches_of, numbers_of}
-use Rattle.differences.specs.Maximal.{MaximalFrom, maximal, only}
-use Rattle.differences.specs.Theorems.{Touch, nth, holding, in_exactly_one, each_within, ascending, few, untouched, touching}
+use Rattle.differences.specs.Maximal.{MaximalFrom, only}
+use Rattle.differences.proofs.Maximal.{maximal}
+use Rattle.differences.proofs.Theorems.{Touch, nth, holding, in_exactly_one, each_within, ascending, few, untouched, touching}
 use Rattle.surveyor.specs.Survey.{marked_stretches, in_bytes, answer, of_map, of_memories, of_all, survey_of}
 use Rattle.surveyor.specs.Lengths.{length_answer}
 use Rattle.surveyor.specs.AsMemories.{zeros, ones, differ_as_marked, as_memories}

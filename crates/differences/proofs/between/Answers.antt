@@ -10,7 +10,7 @@ use Rattle.laws.specs.Filled.{filled}
 use Rattle.differences.specs.Calls.{stretches_of, marks_of, written, lengths_refusal, refusal_of}
 use Rattle.differences.specs.Calls.{refused, accepted, differences_of}
 use Rattle.differences.specs.Walk.{Pair, Usable, Room}
-use Rattle.differences.specs.Refused.{paired, usable}
+use Rattle.differences.proofs.Refusals.{paired, usable}
 use Rattle.differences.specs.declared.Differences.{Differences}
 use borrow.Author.Rules.{rules}
 use Rattle.differences.proofs.between.Goals as goal

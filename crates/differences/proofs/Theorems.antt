@@ -11,7 +11,8 @@ use native.Mathlib.Omega.{arith}
 use borrow.Author.Tests.{le-leb, lt-leb, eq-eqb, eqb-true, not-false}
 use Rattle.differences.specs.Stretches.{Stretch, stretch, some_from, touches, touched}
 use Rattle.differences.specs.Calls.{differ, stretches_of}
-use Rattle.differences.specs.Maximal.{MaximalFrom, not_first, both_answers, settled, maximal}
+use Rattle.differences.specs.Maximal.{MaximalFrom, not_first, both_answers, settled}
+use Rattle.differences.proofs.Maximal.{maximal}
 
 -- Whether an address lies in a stretch; in how many of some stretches it lies.
 abbrev pub lies_in : ℕ → Stretch → Bool

@@ -9,7 +9,7 @@ use Rattle.std.proofs.Math.ListN.{length}
 use borrow.Author.Tests.{eq-eqb, ne_eqb, le-leb}
 use Rattle.differences.specs.Calls.{stretches_of, lengths_refusal, refusal_of, differences_of}
 use Rattle.differences.specs.Maximal.{settled}
-use Rattle.differences.specs.Theorems.{few}
+use Rattle.differences.proofs.Theorems.{few}
 use Rattle.differences.specs.Walk.{Pair, Usable}
 
 module _ (first second : List ℕ) (has-map : Bool) (map : List ℕ) where

@@ -9,8 +9,8 @@ use Rattle.runs.specs.Same.{Same}
 use Rattle.engine.specs.Provenance.{played, read_map, provenance}
 use Rattle.differences.specs.Stretches.{touched}
 use Rattle.differences.specs.Calls.{stretches_of, differences_of}
-use Rattle.differences.specs.Refused.{paired, nothing_refused, lengths_right}
-use Rattle.differences.specs.Theorems.{untouched}
+use Rattle.differences.proofs.Refusals.{paired, nothing_refused, lengths_right}
+use Rattle.differences.proofs.Theorems.{untouched}
 use Rattle.differences.specs.declared.Differences.{Differences}
 
 module _ (edition : Edition) (budget : ℕ) (cpu : Processor) (image second : List ℕ) where
