@@ -38,7 +38,8 @@ pub fn blank(memory: &mut [u8], map: &[u8], byte: u8) -> Blanked
     let mut blanked: u32 = 0;
     let mut at = 0;
     while at < 65536 {
-        if !marks::is_marked(map, at as u16) {
+        let kept = marks::is_marked(map, at as u16);
+        if !kept {
             memory[at] = byte;
             blanked += 1;
         }

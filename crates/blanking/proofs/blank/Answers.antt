@@ -5,7 +5,7 @@ use mathlib.Core.Logic.{⊎_elim}
 use borrow.Author.Rules.{rules}
 use Rattle.blanking.proofs.Walk.{SoFar, wrong_memory, wrong_map, begin, count_fits, one_kept, one_blanked, all_blanked}
 use Rattle.blanking.proofs.blank.Goals as goal
-use Rattle.blanking.proofs.blank.Goals.{else-not-is_marked, then-not-is_marked}
+use Rattle.blanking.proofs.blank.Goals.{else-not-kept, then-not-kept}
 
 pub returns-then-memory-ne65536 : goal.returns-then-memory-ne65536
 returns-then-memory-ne65536 c = search (rules, wrong_memory)
@@ -20,7 +20,10 @@ pub overflow_add-blanked : goal.overflow_add-blanked
 overflow_add-blanked c = search (rules, count_fits)
 
 pub loop-at-preserved : goal.loop-at-preserved
-loop-at-preserved c = elim c.if-not-is_marked.branch [ then-not-is_marked t ↦ search (rules, one_blanked) | else-not-is_marked t ↦ search (rules, one_kept) ]
+loop-at-preserved c = elim c.if-not-kept.branch [
+  | then-not-kept t ↦ search (rules, one_blanked)
+  | else-not-kept t ↦ search (rules, one_kept)
+]
 
 pub returns : goal.returns
 returns c = search (rules, all_blanked)
