@@ -1,7 +1,8 @@
 // What the programs read from standard input and write to standard output: bytes, and lines of text.
 #![tactic(auto)]
 
-ghost use Rattle.std.specs.Prelude.{◌≡◌, ◌≤◌, length, take, IfOk};
+ghost use Rattle.std.specs.Prelude.{◌≡◌, ◌≤◌, length, take, IfOk, OnOk};
+ghost use Rattle.std.specs.Io.KnownBytes.{Appends};
 
 use std::io::{self, Read, Write};
 use text::Line;
@@ -21,8 +22,10 @@ pub fn read_full<R: Read>(from: &mut R, buffer: &mut [u8]) -> io::Result<usize>
     Ok(n)
 }
 
-// Writes out what stands on a line.
-pub fn print<W: Write>(to: &mut W, line: Line) -> io::Result<()> {
+// Writes out what stands on a line. A writer that fails has written some of it, or nothing.
+pub fn print<W: Write>(to: &mut W, line: Line) -> io::Result<()>
+    ensures { OnOk result (Appends (W.contents to.old) (W.contents to.new) (take line.length line.bytes)) }
+{
     let bytes = line.bytes;
     to.write_all(first(&bytes, line.length))
 }
