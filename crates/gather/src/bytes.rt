@@ -1,13 +1,13 @@
 // Modes that read nothing, or one byte in every row.
 ghost use Rattle.std.specs.Prelude.{◌≡◌};
-ghost use Rattle.laws.specs.Lent.{shared, lent};
-ghost use Rattle.memory.specs.Promises.{Ready, Performs};
+ghost use Rattle.memory.specs.Promises.{Performs};
 ghost use Rattle.instructions.specs.Rows.Mode.{immediate, direct, direct_x, absolute, pulled};
 ghost use Rattle.instructions.specs.Gather.{operands};
 ghost use Rattle.gather.specs.Columns.{plainly};
 
 use crate::places::load;
 use instructions::Operands;
+use memory::Bus;
 use processor::{Processor, Produced};
 
 // Nothing is read.
@@ -24,30 +24,27 @@ pub fn implied(cpu: Processor) -> Operands
 }
 
 // d: the byte there.
-pub fn direct(cpu: Processor, memory: &[u8], reads: &mut [u8], writes: &[u8]) -> Operands
-    requires { Ready memory.now reads.old writes.now }
-    ensures { Performs (plainly direct cpu) (shared memory) (lent reads) (shared writes) result }
+pub fn direct(cpu: Processor, bus: &mut Bus) -> Operands
+    ensures { Performs (plainly direct cpu) bus.old bus.new result }
 {
-    let found = modes::d(cpu, memory, reads, writes);
-    load(found, memory, reads, writes)
+    let found = modes::d(cpu, bus);
+    load(found, bus)
 }
 
 // d+X: the byte there.
-pub fn direct_x(cpu: Processor, memory: &[u8], reads: &mut [u8], writes: &[u8]) -> Operands
-    requires { Ready memory.now reads.old writes.now }
-    ensures { Performs (plainly direct_x cpu) (shared memory) (lent reads) (shared writes) result }
+pub fn direct_x(cpu: Processor, bus: &mut Bus) -> Operands
+    ensures { Performs (plainly direct_x cpu) bus.old bus.new result }
 {
-    let found = modes::dx(cpu, memory, reads, writes);
-    load(found, memory, reads, writes)
+    let found = modes::dx(cpu, bus);
+    load(found, bus)
 }
 
 // !a: the byte there.
-pub fn absolute(cpu: Processor, memory: &[u8], reads: &mut [u8], writes: &[u8]) -> Operands
-    requires { Ready memory.now reads.old writes.now }
-    ensures { Performs (plainly absolute cpu) (shared memory) (lent reads) (shared writes) result }
+pub fn absolute(cpu: Processor, bus: &mut Bus) -> Operands
+    ensures { Performs (plainly absolute cpu) bus.old bus.new result }
 {
-    let found = modes::abs(cpu, memory, reads, writes);
-    load(found, memory, reads, writes)
+    let found = modes::abs(cpu, bus);
+    load(found, bus)
 }
 
 // A byte alone.
@@ -65,17 +62,15 @@ fn byte_only(read: Produced) -> Operands
 }
 
 // An operand byte.
-pub fn immediate(cpu: Processor, memory: &[u8], reads: &mut [u8], writes: &[u8]) -> Operands
-    requires { Ready memory.now reads.old writes.now }
-    ensures { Performs (plainly immediate cpu) (shared memory) (lent reads) (shared writes) result }
+pub fn immediate(cpu: Processor, bus: &mut Bus) -> Operands
+    ensures { Performs (plainly immediate cpu) bus.old bus.new result }
 {
-    byte_only(modes::fetch_u8(cpu, memory, reads, writes))
+    byte_only(modes::fetch_u8(cpu, bus))
 }
 
 // A byte from the stack.
-pub fn pulled(cpu: Processor, memory: &[u8], reads: &mut [u8], writes: &[u8]) -> Operands
-    requires { Ready memory.now reads.old writes.now }
-    ensures { Performs (plainly pulled cpu) (shared memory) (lent reads) (shared writes) result }
+pub fn pulled(cpu: Processor, bus: &mut Bus) -> Operands
+    ensures { Performs (plainly pulled cpu) bus.old bus.new result }
 {
-    byte_only(modes::pull_from_stack_u8(cpu, memory, reads, writes))
+    byte_only(modes::pull_from_stack_u8(cpu, bus))
 }

@@ -1,7 +1,6 @@
 // What an address that a mode found is for: the byte there, or the address alone.
 ghost use Rattle.std.specs.Prelude.{◌≡◌};
-ghost use Rattle.laws.specs.Lent.{shared, lent};
-ghost use Rattle.memory.specs.Promises.{Ready, Performs};
+ghost use Rattle.memory.specs.Promises.{Performs};
 ghost use Rattle.memory.specs.Access.{then};
 ghost use Rattle.modes.specs.Modes as mode;
 ghost use Rattle.instructions.specs.Gather.{operands, loaded};
@@ -9,6 +8,7 @@ ghost use Rattle.gather.specs.Columns.{placed};
 
 use editions::Edition;
 use instructions::Operands;
+use memory::Bus;
 use modes::Addressed;
 use processor::Processor;
 
@@ -27,11 +27,10 @@ pub fn aim(found: Addressed) -> Operands
 }
 
 // An address with the byte that stands there.
-pub fn load(found: Addressed, memory: &[u8], reads: &mut [u8], writes: &[u8]) -> Operands
-    requires { Ready memory.now reads.old writes.now }
-    ensures { Performs (loaded found) (shared memory) (lent reads) (shared writes) result }
+pub fn load(found: Addressed, bus: &mut Bus) -> Operands
+    ensures { Performs (loaded found) bus.old bus.new result }
 {
-    let low = memory::read(memory, reads, writes, found.at);
+    let low = bus.read(found.at);
     let cpu = found.cpu;
     Operands {
         cpu,
@@ -43,98 +42,75 @@ pub fn load(found: Addressed, memory: &[u8], reads: &mut [u8], writes: &[u8]) ->
 }
 
 // Either, by the opcode: where A, X and Y are loaded and stored, the stores are the opcodes whose top three bits are 6.
-pub fn place(found: Addressed, memory: &[u8], reads: &mut [u8], writes: &[u8], op: u8) -> Operands
-    requires { Ready memory.now reads.old writes.now }
-    ensures { Performs (placed op found) (shared memory) (lent reads) (shared writes) result }
+pub fn place(found: Addressed, bus: &mut Bus, op: u8) -> Operands
+    ensures { Performs (placed op found) bus.old bus.new result }
 {
     if op / 32 == 6 {
         return aim(found);
     }
-    load(found, memory, reads, writes)
+    load(found, bus)
 }
 
 // d
-pub fn d(cpu: Processor, memory: &[u8], reads: &mut [u8], writes: &[u8], op: u8) -> Operands
-    requires { Ready memory.now reads.old writes.now }
-    ensures { Performs (then (mode.direct 0 cpu) (placed op)) (shared memory) (lent reads) (shared writes) result }
+pub fn d(cpu: Processor, bus: &mut Bus, op: u8) -> Operands
+    ensures { Performs (then (mode.direct 0 cpu) (placed op)) bus.old bus.new result }
 {
-    let found = modes::d(cpu, memory, reads, writes);
-    place(found, memory, reads, writes, op)
+    let found = modes::d(cpu, bus);
+    place(found, bus, op)
 }
 
 // d+X
-pub fn dx(cpu: Processor, memory: &[u8], reads: &mut [u8], writes: &[u8], op: u8) -> Operands
-    requires { Ready memory.now reads.old writes.now }
-    ensures { Performs (then (mode.direct cpu.x cpu) (placed op)) (shared memory) (lent reads) (shared writes) result }
+pub fn dx(cpu: Processor, bus: &mut Bus, op: u8) -> Operands
+    ensures { Performs (then (mode.direct cpu.x cpu) (placed op)) bus.old bus.new result }
 {
-    let found = modes::dx(cpu, memory, reads, writes);
-    place(found, memory, reads, writes, op)
+    let found = modes::dx(cpu, bus);
+    place(found, bus, op)
 }
 
 // d+Y
-pub fn dy(cpu: Processor, memory: &[u8], reads: &mut [u8], writes: &[u8], op: u8) -> Operands
-    requires { Ready memory.now reads.old writes.now }
-    ensures { Performs (then (mode.direct cpu.y cpu) (placed op)) (shared memory) (lent reads) (shared writes) result }
+pub fn dy(cpu: Processor, bus: &mut Bus, op: u8) -> Operands
+    ensures { Performs (then (mode.direct cpu.y cpu) (placed op)) bus.old bus.new result }
 {
-    let found = modes::dy(cpu, memory, reads, writes);
-    place(found, memory, reads, writes, op)
+    let found = modes::dy(cpu, bus);
+    place(found, bus, op)
 }
 
 // !a
-pub fn abs(cpu: Processor, memory: &[u8], reads: &mut [u8], writes: &[u8], op: u8) -> Operands
-    requires { Ready memory.now reads.old writes.now }
-    ensures { Performs (then (mode.absolute 0 cpu) (placed op)) (shared memory) (lent reads) (shared writes) result }
+pub fn abs(cpu: Processor, bus: &mut Bus, op: u8) -> Operands
+    ensures { Performs (then (mode.absolute 0 cpu) (placed op)) bus.old bus.new result }
 {
-    let found = modes::abs(cpu, memory, reads, writes);
-    place(found, memory, reads, writes, op)
+    let found = modes::abs(cpu, bus);
+    place(found, bus, op)
 }
 
 // !a+X
-pub fn absx(cpu: Processor, memory: &[u8], reads: &mut [u8], writes: &[u8], op: u8) -> Operands
-    requires { Ready memory.now reads.old writes.now }
-    ensures { Performs (then (mode.absolute cpu.x cpu) (placed op)) (shared memory) (lent reads) (shared writes) result }
+pub fn absx(cpu: Processor, bus: &mut Bus, op: u8) -> Operands
+    ensures { Performs (then (mode.absolute cpu.x cpu) (placed op)) bus.old bus.new result }
 {
-    let found = modes::absx(cpu, memory, reads, writes);
-    place(found, memory, reads, writes, op)
+    let found = modes::absx(cpu, bus);
+    place(found, bus, op)
 }
 
 // !a+Y
-pub fn absy(cpu: Processor, memory: &[u8], reads: &mut [u8], writes: &[u8], op: u8) -> Operands
-    requires { Ready memory.now reads.old writes.now }
-    ensures { Performs (then (mode.absolute cpu.y cpu) (placed op)) (shared memory) (lent reads) (shared writes) result }
+pub fn absy(cpu: Processor, bus: &mut Bus, op: u8) -> Operands
+    ensures { Performs (then (mode.absolute cpu.y cpu) (placed op)) bus.old bus.new result }
 {
-    let found = modes::absy(cpu, memory, reads, writes);
-    place(found, memory, reads, writes, op)
+    let found = modes::absy(cpu, bus);
+    place(found, bus, op)
 }
 
 // [d+X]
-pub fn idx(
-    cpu: Processor,
-    edition: Edition,
-    memory: &[u8],
-    reads: &mut [u8],
-    writes: &[u8],
-    op: u8,
-) -> Operands
-    requires { Ready memory.now reads.old writes.now }
-    ensures { Performs (then (mode.pointer_x edition cpu) (placed op)) (shared memory) (lent reads) (shared writes) result }
+pub fn idx(cpu: Processor, edition: Edition, bus: &mut Bus, op: u8) -> Operands
+    ensures { Performs (then (mode.pointer_x edition cpu) (placed op)) bus.old bus.new result }
 {
-    let found = modes::idx(cpu, edition, memory, reads, writes);
-    place(found, memory, reads, writes, op)
+    let found = modes::idx(cpu, edition, bus);
+    place(found, bus, op)
 }
 
 // [d]+Y
-pub fn idy(
-    cpu: Processor,
-    edition: Edition,
-    memory: &[u8],
-    reads: &mut [u8],
-    writes: &[u8],
-    op: u8,
-) -> Operands
-    requires { Ready memory.now reads.old writes.now }
-    ensures { Performs (then (mode.pointer_y edition cpu) (placed op)) (shared memory) (lent reads) (shared writes) result }
+pub fn idy(cpu: Processor, edition: Edition, bus: &mut Bus, op: u8) -> Operands
+    ensures { Performs (then (mode.pointer_y edition cpu) (placed op)) bus.old bus.new result }
 {
-    let found = modes::idy(cpu, edition, memory, reads, writes);
-    place(found, memory, reads, writes, op)
+    let found = modes::idy(cpu, edition, bus);
+    place(found, bus, op)
 }

@@ -1,28 +1,21 @@
 // Modes that read more than one thing.
 ghost use Rattle.std.specs.Prelude.{◌^◌, ◌≤◌, ◌≡◌};
-ghost use Rattle.laws.specs.Lent.{shared, lent};
-ghost use Rattle.memory.specs.Promises.{Ready, Performs};
+ghost use Rattle.memory.specs.Promises.{Performs};
 ghost use Rattle.instructions.specs.Rows.Mode.{direct_direct, direct_to_direct, direct_immediate, immediate_to_direct, at_x_at_y, direct_word, to_direct_word, memory_bit};
 ghost use Rattle.instructions.specs.Gather.{both_loaded, source_loaded};
 ghost use Rattle.gather.specs.Columns.{plainly};
 
 use instructions::Operands;
+use memory::Bus;
 use modes::Addressed;
 use processor::Processor;
 
 // A source and a target, both read.
-fn load_both(
-    found: Addressed,
-    memory: &[u8],
-    reads: &mut [u8],
-    writes: &[u8],
-    source: u16,
-) -> Operands
-    requires { Ready memory.now reads.old writes.now }
-    ensures { Performs (both_loaded source found) (shared memory) (lent reads) (shared writes) result }
+fn load_both(found: Addressed, bus: &mut Bus, source: u16) -> Operands
+    ensures { Performs (both_loaded source found) bus.old bus.new result }
 {
-    let low = memory::read(memory, reads, writes, source);
-    let high = memory::read(memory, reads, writes, found.at);
+    let low = bus.read(source);
+    let high = bus.read(found.at);
     let cpu = found.cpu;
     Operands {
         cpu,
@@ -34,17 +27,10 @@ fn load_both(
 }
 
 // A target's address and a source that is read.
-fn load_source(
-    found: Addressed,
-    memory: &[u8],
-    reads: &mut [u8],
-    writes: &[u8],
-    source: u16,
-) -> Operands
-    requires { Ready memory.now reads.old writes.now }
-    ensures { Performs (source_loaded source found) (shared memory) (lent reads) (shared writes) result }
+fn load_source(found: Addressed, bus: &mut Bus, source: u16) -> Operands
+    ensures { Performs (source_loaded source found) bus.old bus.new result }
 {
-    let low = memory::read(memory, reads, writes, source);
+    let low = bus.read(source);
     let cpu = found.cpu;
     Operands {
         cpu,
@@ -56,36 +42,33 @@ fn load_source(
 }
 
 // d,d: the source's operand byte comes first.
-pub fn direct_direct(cpu: Processor, memory: &[u8], reads: &mut [u8], writes: &[u8]) -> Operands
-    requires { Ready memory.now reads.old writes.now }
-    ensures { Performs (plainly direct_direct cpu) (shared memory) (lent reads) (shared writes) result }
+pub fn direct_direct(cpu: Processor, bus: &mut Bus) -> Operands
+    ensures { Performs (plainly direct_direct cpu) bus.old bus.new result }
 {
-    let source = modes::d(cpu, memory, reads, writes);
+    let source = modes::d(cpu, bus);
     let next = source.cpu;
-    let found = modes::d(next, memory, reads, writes);
-    load_both(found, memory, reads, writes, source.at)
+    let found = modes::d(next, bus);
+    load_both(found, bus, source.at)
 }
 
 // d,d for MOV, which does not read its target.
-pub fn direct_to_direct(cpu: Processor, memory: &[u8], reads: &mut [u8], writes: &[u8]) -> Operands
-    requires { Ready memory.now reads.old writes.now }
-    ensures { Performs (plainly direct_to_direct cpu) (shared memory) (lent reads) (shared writes) result }
+pub fn direct_to_direct(cpu: Processor, bus: &mut Bus) -> Operands
+    ensures { Performs (plainly direct_to_direct cpu) bus.old bus.new result }
 {
-    let source = modes::d(cpu, memory, reads, writes);
+    let source = modes::d(cpu, bus);
     let next = source.cpu;
-    let found = modes::d(next, memory, reads, writes);
-    load_source(found, memory, reads, writes, source.at)
+    let found = modes::d(next, bus);
+    load_source(found, bus, source.at)
 }
 
 // d,#i: the immediate comes first.
-pub fn direct_immediate(cpu: Processor, memory: &[u8], reads: &mut [u8], writes: &[u8]) -> Operands
-    requires { Ready memory.now reads.old writes.now }
-    ensures { Performs (plainly direct_immediate cpu) (shared memory) (lent reads) (shared writes) result }
+pub fn direct_immediate(cpu: Processor, bus: &mut Bus) -> Operands
+    ensures { Performs (plainly direct_immediate cpu) bus.old bus.new result }
 {
-    let immediate = modes::fetch_u8(cpu, memory, reads, writes);
+    let immediate = modes::fetch_u8(cpu, bus);
     let next = immediate.cpu;
-    let found = modes::d(next, memory, reads, writes);
-    let high = memory::read(memory, reads, writes, found.at);
+    let found = modes::d(next, bus);
+    let high = bus.read(found.at);
     let after = found.cpu;
     Operands {
         cpu: after,
@@ -97,18 +80,12 @@ pub fn direct_immediate(cpu: Processor, memory: &[u8], reads: &mut [u8], writes:
 }
 
 // d,#i for MOV, which does not read its target.
-pub fn immediate_to_direct(
-    cpu: Processor,
-    memory: &[u8],
-    reads: &mut [u8],
-    writes: &[u8],
-) -> Operands
-    requires { Ready memory.now reads.old writes.now }
-    ensures { Performs (plainly immediate_to_direct cpu) (shared memory) (lent reads) (shared writes) result }
+pub fn immediate_to_direct(cpu: Processor, bus: &mut Bus) -> Operands
+    ensures { Performs (plainly immediate_to_direct cpu) bus.old bus.new result }
 {
-    let immediate = modes::fetch_u8(cpu, memory, reads, writes);
+    let immediate = modes::fetch_u8(cpu, bus);
     let next = immediate.cpu;
-    let found = modes::d(next, memory, reads, writes);
+    let found = modes::d(next, bus);
     let after = found.cpu;
     Operands {
         cpu: after,
@@ -120,22 +97,20 @@ pub fn immediate_to_direct(
 }
 
 // (X),(Y): (Y) is the source.
-pub fn at_x_at_y(cpu: Processor, memory: &[u8], reads: &mut [u8], writes: &[u8]) -> Operands
-    requires { Ready memory.now reads.old writes.now }
-    ensures { Performs (plainly at_x_at_y cpu) (shared memory) (lent reads) (shared writes) result }
+pub fn at_x_at_y(cpu: Processor, bus: &mut Bus) -> Operands
+    ensures { Performs (plainly at_x_at_y cpu) bus.old bus.new result }
 {
     let source = modes::iy(cpu);
-    load_both(modes::ix(cpu), memory, reads, writes, source.at)
+    load_both(modes::ix(cpu), bus, source.at)
 }
 
 // A word of the direct page.
-pub fn direct_word(cpu: Processor, memory: &[u8], reads: &mut [u8], writes: &[u8]) -> Operands
-    requires { Ready memory.now reads.old writes.now }
-    ensures { Performs (plainly direct_word cpu) (shared memory) (lent reads) (shared writes) result }
+pub fn direct_word(cpu: Processor, bus: &mut Bus) -> Operands
+    ensures { Performs (plainly direct_word cpu) bus.old bus.new result }
 {
-    let found = modes::dw(cpu, memory, reads, writes);
-    let low = memory::read(memory, reads, writes, found.low);
-    let high = memory::read(memory, reads, writes, found.high);
+    let found = modes::dw(cpu, bus);
+    let low = bus.read(found.low);
+    let high = bus.read(found.high);
     let after = found.cpu;
     Operands {
         cpu: after,
@@ -147,11 +122,10 @@ pub fn direct_word(cpu: Processor, memory: &[u8], reads: &mut [u8], writes: &[u8
 }
 
 // The place of a word of the direct page.
-pub fn to_direct_word(cpu: Processor, memory: &[u8], reads: &mut [u8], writes: &[u8]) -> Operands
-    requires { Ready memory.now reads.old writes.now }
-    ensures { Performs (plainly to_direct_word cpu) (shared memory) (lent reads) (shared writes) result }
+pub fn to_direct_word(cpu: Processor, bus: &mut Bus) -> Operands
+    ensures { Performs (plainly to_direct_word cpu) bus.old bus.new result }
 {
-    let found = modes::dw(cpu, memory, reads, writes);
+    let found = modes::dw(cpu, bus);
     let after = found.cpu;
     Operands {
         cpu: after,
@@ -171,12 +145,11 @@ fn bit_value(bit: u8) -> u8
 }
 
 // A byte and one of its bits, by its value.
-pub fn memory_bit(cpu: Processor, memory: &[u8], reads: &mut [u8], writes: &[u8]) -> Operands
-    requires { Ready memory.now reads.old writes.now }
-    ensures { Performs (plainly memory_bit cpu) (shared memory) (lent reads) (shared writes) result }
+pub fn memory_bit(cpu: Processor, bus: &mut Bus) -> Operands
+    ensures { Performs (plainly memory_bit cpu) bus.old bus.new result }
 {
-    let found = modes::bit_operand(cpu, memory, reads, writes);
-    let low = memory::read(memory, reads, writes, found.at);
+    let found = modes::bit_operand(cpu, bus);
+    let low = bus.read(found.at);
     let after = found.cpu;
     Operands {
         cpu: after,

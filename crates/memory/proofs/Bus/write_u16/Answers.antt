@@ -2,9 +2,10 @@
 -- Assumes nothing.
 use Rattle.std.proofs.Common.{rules}
 use Rattle.memory.proofs.Laws.{accesses}
+use Rattle.memory.specs.Access.{perform}
 use Rattle.memory.specs.Words.{write_word}
-use Rattle.memory.proofs.write_u16.Goals as goal
+use Rattle.memory.proofs.Bus.write_u16.Goals as goal
 
 pub returns : goal.returns
-unfolding write_word
+unfolding write_word perform
 returns c = search accesses
