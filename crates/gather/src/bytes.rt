@@ -51,9 +51,8 @@ pub fn absolute(cpu: Processor, bus: &mut Bus) -> Operands
 fn byte_only(read: Produced) -> Operands
     ensures { result ≡ operands read.cpu 0 0 read.byte 0 }
 {
-    let cpu = read.cpu;
     Operands {
-        cpu,
+        cpu: read.cpu,
         at: 0,
         next: 0,
         low: read.byte,

@@ -16,9 +16,8 @@ use processor::Processor;
 pub fn aim(found: Addressed) -> Operands
     ensures { result ≡ operands found.cpu found.at 0 0 0 }
 {
-    let cpu = found.cpu;
     Operands {
-        cpu,
+        cpu: found.cpu,
         at: found.at,
         next: 0,
         low: 0,
@@ -31,9 +30,8 @@ pub fn load(found: Addressed, bus: &mut Bus) -> Operands
     ensures { Performs (loaded found) bus.old bus.new result }
 {
     let low = bus.read(found.at);
-    let cpu = found.cpu;
     Operands {
-        cpu,
+        cpu: found.cpu,
         at: found.at,
         next: 0,
         low,

@@ -16,9 +16,8 @@ fn load_both(found: Addressed, bus: &mut Bus, source: u16) -> Operands
 {
     let low = bus.read(source);
     let high = bus.read(found.at);
-    let cpu = found.cpu;
     Operands {
-        cpu,
+        cpu: found.cpu,
         at: found.at,
         next: 0,
         low,
@@ -31,9 +30,8 @@ fn load_source(found: Addressed, bus: &mut Bus, source: u16) -> Operands
     ensures { Performs (source_loaded source found) bus.old bus.new result }
 {
     let low = bus.read(source);
-    let cpu = found.cpu;
     Operands {
-        cpu,
+        cpu: found.cpu,
         at: found.at,
         next: 0,
         low,
@@ -46,8 +44,7 @@ pub fn direct_direct(cpu: Processor, bus: &mut Bus) -> Operands
     ensures { Performs (plainly direct_direct cpu) bus.old bus.new result }
 {
     let source = modes::d(cpu, bus);
-    let next = source.cpu;
-    let found = modes::d(next, bus);
+    let found = modes::d(source.cpu, bus);
     load_both(found, bus, source.at)
 }
 
@@ -56,8 +53,7 @@ pub fn direct_to_direct(cpu: Processor, bus: &mut Bus) -> Operands
     ensures { Performs (plainly direct_to_direct cpu) bus.old bus.new result }
 {
     let source = modes::d(cpu, bus);
-    let next = source.cpu;
-    let found = modes::d(next, bus);
+    let found = modes::d(source.cpu, bus);
     load_source(found, bus, source.at)
 }
 
@@ -66,12 +62,10 @@ pub fn direct_immediate(cpu: Processor, bus: &mut Bus) -> Operands
     ensures { Performs (plainly direct_immediate cpu) bus.old bus.new result }
 {
     let immediate = modes::fetch_u8(cpu, bus);
-    let next = immediate.cpu;
-    let found = modes::d(next, bus);
+    let found = modes::d(immediate.cpu, bus);
     let high = bus.read(found.at);
-    let after = found.cpu;
     Operands {
-        cpu: after,
+        cpu: found.cpu,
         at: found.at,
         next: 0,
         low: immediate.byte,
@@ -84,11 +78,9 @@ pub fn immediate_to_direct(cpu: Processor, bus: &mut Bus) -> Operands
     ensures { Performs (plainly immediate_to_direct cpu) bus.old bus.new result }
 {
     let immediate = modes::fetch_u8(cpu, bus);
-    let next = immediate.cpu;
-    let found = modes::d(next, bus);
-    let after = found.cpu;
+    let found = modes::d(immediate.cpu, bus);
     Operands {
-        cpu: after,
+        cpu: found.cpu,
         at: found.at,
         next: 0,
         low: immediate.byte,
@@ -111,9 +103,8 @@ pub fn direct_word(cpu: Processor, bus: &mut Bus) -> Operands
     let found = modes::dw(cpu, bus);
     let low = bus.read(found.low);
     let high = bus.read(found.high);
-    let after = found.cpu;
     Operands {
-        cpu: after,
+        cpu: found.cpu,
         at: found.low,
         next: found.high,
         low,
@@ -126,9 +117,8 @@ pub fn to_direct_word(cpu: Processor, bus: &mut Bus) -> Operands
     ensures { Performs (plainly to_direct_word cpu) bus.old bus.new result }
 {
     let found = modes::dw(cpu, bus);
-    let after = found.cpu;
     Operands {
-        cpu: after,
+        cpu: found.cpu,
         at: found.low,
         next: found.high,
         low: 0,
@@ -150,9 +140,8 @@ pub fn memory_bit(cpu: Processor, bus: &mut Bus) -> Operands
 {
     let found = modes::bit_operand(cpu, bus);
     let low = bus.read(found.at);
-    let after = found.cpu;
     Operands {
-        cpu: after,
+        cpu: found.cpu,
         at: found.at,
         next: 0,
         low,

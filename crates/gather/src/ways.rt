@@ -15,9 +15,8 @@ pub fn upper_page(cpu: Processor, bus: &mut Bus) -> Operands
     ensures { Performs (plainly upper_page cpu) bus.old bus.new result }
 {
     let operand = modes::fetch_u8(cpu, bus);
-    let after = operand.cpu;
     Operands {
-        cpu: after,
+        cpu: operand.cpu,
         at: 0xFF00 + operand.byte as u16,
         next: 0,
         low: 0,
@@ -72,11 +71,9 @@ pub fn pulled_three(cpu: Processor, bus: &mut Bus) -> Operands
     ensures { Performs (plainly pulled_three cpu) bus.old bus.new result }
 {
     let first = modes::pull_from_stack_u8(cpu, bus);
-    let next = first.cpu;
-    let found = modes::pull_from_stack_u16(next, bus);
-    let after = found.cpu;
+    let found = modes::pull_from_stack_u16(first.cpu, bus);
     Operands {
-        cpu: after,
+        cpu: found.cpu,
         at: found.at,
         next: 0,
         low: first.byte,
