@@ -11,8 +11,7 @@ impl Processor {
     pub fn is_awake(self) -> bool
         ensures { result ≡ is_awake self.state }
     {
-        let state = self.state;
-        waking::is_awake(state)
+        self.state.is_awake()
     }
 
     // The record in another state.
