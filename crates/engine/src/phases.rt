@@ -13,8 +13,7 @@ fn begin(cpu: Processor, edition: Edition, bus: &mut Bus) -> Begun
     ensures { Performs (begin_of edition cpu) bus.old bus.new result }
 {
     let fetched = modes::fetch_u8(cpu, bus);
-    let next = fetched.cpu;
-    let operands = gather::gather(next, edition, bus, fetched.byte);
+    let operands = gather::gather(fetched.cpu, edition, bus, fetched.byte);
     Begun {
         opcode: fetched.byte,
         operands,
@@ -22,11 +21,7 @@ fn begin(cpu: Processor, edition: Edition, bus: &mut Bus) -> Begun
 }
 
 // The stores, in order.
-fn commit(
-    cpu: Processor,
-    bus: &mut Bus,
-    stores: Stores,
-) -> Processor
+fn commit(cpu: Processor, bus: &mut Bus, stores: Stores) -> Processor
     ensures { Performs (commit_of stores cpu) bus.old bus.new result }
 {
     match stores {
@@ -47,12 +42,7 @@ fn commit(
 }
 
 // BRK's stores: the return PC, then a status byte.
-fn interrupt(
-    cpu: Processor,
-    bus: &mut Bus,
-    byte: u8,
-    target: u16,
-) -> Processor
+fn interrupt(cpu: Processor, bus: &mut Bus, byte: u8, target: u16) -> Processor
     ensures { Performs (commit_of (Stores.Break byte target) cpu) bus.old bus.new result }
 {
     let pushed = modes::push_to_stack_u16(cpu, bus, cpu.pc);
@@ -75,22 +65,15 @@ fn branch(cpu: Processor, bus: &mut Bus, taken: bool) -> Processor
 fn finish(made: Effect, bus: &mut Bus) -> Processor
     ensures { Performs (finish_of made) bus.old bus.new result }
 {
-    let cpu = made.cpu;
-    let stores = made.stores;
-    let stored = commit(cpu, bus, stores);
+    let stored = commit(made.cpu, bus, made.stores);
     branch(stored, bus, made.taken)
 }
 
 // A whole instruction.
-pub fn instruction(
-    cpu: Processor,
-    edition: Edition,
-    bus: &mut Bus,
-) -> Processor
+pub fn instruction(cpu: Processor, edition: Edition, bus: &mut Bus) -> Processor
     ensures { Performs (step_of edition cpu) bus.old bus.new result }
 {
     let begun = begin(cpu, edition, bus);
-    let operands = begun.operands;
-    let made = effects::effect_of(begun.opcode, operands);
+    let made = effects::effect_of(begun.opcode, begun.operands);
     finish(made, bus)
 }

@@ -28,6 +28,11 @@ pub record Performs {R : Type 0} (p : Access R) (before after : Bus) (r : R) : T
   pub does : Does p (behind before) (outcome r (behind after))
   pub same : SameLoans before after
 
+-- What a call promises that takes any number of steps, or none: `r` and what is left are what `answer` makes of what was behind the bus.
+pub record Answers {R : Type 0} (answer : World → Outcome World R) (before after : Bus) (r : R) : Type 0 where
+  pub is : outcome r (behind after) ≡ answer (behind before)
+  pub same : SameLoans before after
+
 -- What a call from outside promises: `r` and what is left are what `answer` makes of memory and maps.
 abbrev pub Yields : {R : Type 0} → (World → Outcome World R) → Lent → Lent → Lent → R → Type 0
 Yields answer memory reads writes r = outcome r (after memory reads writes) ≡ answer (before memory reads writes)
