@@ -49,15 +49,6 @@ bit_at map i j h =
 abbrev up_to : (Bool → Bool → Bool) → List ℕ → List ℕ → ℕ → ℕ
 up_to so reads writes i = how_many (8 * i) (marked_so so reads writes)
 
--- Where a byte has the bits that byte i of the two maps has so, its ones are what a sum up to there lacks.
-byte_more : (so : Bool → Bool → Bool) (reads writes : List ℕ) (i x : ℕ) {sum : ℕ} → sum ≡ up_to so reads writes i → x < 256
-    → ((j : ℕ) → j < 8 → bit x j ≡ so (bit (get_or reads i 0) j) (bit (get_or writes i 0) j)) → sum + ones x ≡ up_to so reads writes (i + 1)
-byte_more so reads writes i x e fits bits =
-    let next : 8 * (i + 1) ≡ 8 * i + 8 = omega arith in
-    let eight : ones x ≡ how_many 8 (λ j. marked_so so reads writes (8 * i + j)) =
-    ones_are 8 x fits ∙ same_tests 8 _ _ (λ j h. rw (bit_at reads i j h, bit_at writes i j h) (bits j h)) in
-    rw (e, next, eight) (sym (apart (8 * i) 8 (marked_so so reads writes)))
-
 -- ---- the loop's invariant
 
 -- After i bytes of each map the three sums are the numbers of addresses in these bytes.
@@ -88,17 +79,25 @@ module _ (reads writes : List ℕ) where
         let few = ones-le 8 (bit_and x y) (omega (arith, and_le_l x y)) in
         omega (arith, at_most (8 * i) (marked_so so reads writes), turn.within)
 
+    -- Where a byte has the bits that the turn's two have so, its ones are what a sum up to there lacks.
+    byte_more : (so : Bool → Bool → Bool) {sum x : ℕ} → sum ≡ up_to so reads writes i → x < 256
+        → ((j : ℕ) → j < 8 → bit x j ≡ so (bit read j) (bit stored j)) → sum + ones x ≡ up_to so reads writes (i + 1)
+    byte_more so {x = x} e fits bits =
+        let next : 8 * (i + 1) ≡ 8 * i + 8 = omega arith in
+        let here : (j : ℕ) → j < 8 → bit x j ≡ marked_so so reads writes (8 * i + j) =
+        λ j h. bits j h ∙ rw (bit_at reads i j h, bit_at writes i j h, turn.of_reads, turn.of_writes) in
+        let eight : ones x ≡ how_many 8 (λ j. marked_so so reads writes (8 * i + j)) = ones_are 8 x fits ∙ same_tests 8 _ _ here in
+        rw (e, next, eight) (sym (apart (8 * i) 8 (marked_so so reads writes)))
+
     pub one_more : {c : Counted} → SoFar reads writes c i
         → SoFar reads writes (record {
           read_only = c.read_only + ones (bit_and read (255 - stored));
           stored_only = c.stored_only + ones (bit_and stored (255 - read));
           both = c.both + ones (bit_and read stored);
         }) (i + 1)
-    one_more {c} so = record {
+    one_more so = record {
       within = omega (arith, turn.within);
-      read_only =
-          byte_more read_only reads writes i _ so.read_only (and_lt 8 _ _ turn.read_fits (omega arith)) (λ j h. rw (← turn.of_reads, ← turn.of_writes) (alone read stored j turn.stored_fits h));
-      stored_only =
-          byte_more stored_only reads writes i _ so.stored_only (and_lt 8 _ _ turn.stored_fits (omega arith)) (λ j h. rw (← turn.of_reads, ← turn.of_writes) (alone stored read j turn.read_fits h));
-      both = byte_more read_and_stored reads writes i _ so.both (and_lt 8 _ _ turn.read_fits turn.stored_fits) (λ j h. rw (← turn.of_reads, ← turn.of_writes) (and_bit read stored j));
+      read_only = byte_more read_only so.read_only (and_lt 8 _ _ turn.read_fits (omega arith)) (λ j. alone _ _ j turn.stored_fits);
+      stored_only = byte_more stored_only so.stored_only (and_lt 8 _ _ turn.stored_fits (omega arith)) (λ j. alone _ _ j turn.read_fits);
+      both = byte_more read_and_stored so.both (and_lt 8 _ _ turn.read_fits turn.stored_fits) (λ j h. and_bit _ _ j);
     }
