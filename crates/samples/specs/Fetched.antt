@@ -1,7 +1,7 @@
 -- What the sound chip may fetch of an image: which bytes belong to a sample.
 --
 -- The map of it is kept as the read map is: an address is marked where it may be fetched before the processor has stored there.
-use Rattle.std.specs.Prelude.{◌≡◌, ℕ, zero, suc, ◌+◌, ◌*◌, ◌/◌, ◌%◌, cond, List, length, ◌==◌, slice_index}
+use Rattle.std.specs.Prelude.{ℕ, zero, suc, ◌+◌, ◌*◌, ◌/◌, ◌%◌, cond, List, ◌==◌, slice_index}
 use Rattle.marks.specs.Maps.{marked_unless}
 use Rattle.processor.specs.Record.{word_of}
 
@@ -41,7 +41,3 @@ voices zero voice bits chip memory writes map = map
 voices (suc n) voice bits chip memory writes map =
     voices n (voice + 1) (bits / 2) chip memory writes
     (cond (bits % 2 == 1) (sample (slice_index chip 0x5D) (slice_index chip (16 * voice + 4)) memory writes map) map)
-
--- What the functions on these slices ask for: a memory, the written map, and the map of what may be fetched.
-abbrev pub Fetching : List ℕ → List ℕ → List ℕ → Type 0
-Fetching memory writes map = (length memory ≡ 65536) × (length writes ≡ 8192) × (length map ≡ 8192)

@@ -3,8 +3,5 @@
 use Rattle.samples.proofs.Marking.{Marking}
 use Rattle.samples.proofs.fetch.Given as goal
 
-abbrev pub invariant-loop-left : goal.invariant-loop-left
-invariant-loop-left l = Marking l.n l.at l.writes l.initial.map l.map l.left l.next
-
-abbrev pub decreases-loop-left : goal.decreases-loop-left
-decreases-loop-left l = l.left
+abbrev pub invariant-loop-place : goal.invariant-loop-place
+invariant-loop-place l = Marking l.n l.at l.writes l.initial.map l.map l.place

@@ -3,8 +3,5 @@
 use Rattle.samples.proofs.Stepping.{Stepping}
 use Rattle.samples.proofs.fetch_blocks.Given as goal
 
-abbrev pub invariant-loop-left : goal.invariant-loop-left
-invariant-loop-left l = Stepping 65536 l.start l.memory l.writes l.initial.map l.map l.left l.at l.last
-
-abbrev pub decreases-loop-left : goal.decreases-loop-left
-decreases-loop-left l = l.left
+abbrev pub invariant-loop : goal.invariant-loop
+invariant-loop l = Stepping 65536 l.start l.memory l.writes l.initial.map l.map l.counter l.at

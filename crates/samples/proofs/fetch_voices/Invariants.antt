@@ -1,11 +1,7 @@
 -- The invariant is `Voicing`: the voices that are left, from here on, make the map what it is to be.
 -- Assumes nothing.
-use Rattle.std.proofs.Common.{◌-◌}
 use Rattle.samples.proofs.Voicing.{Voicing}
 use Rattle.samples.proofs.fetch_voices.Given as goal
 
 abbrev pub invariant-loop-voice : goal.invariant-loop-voice
-invariant-loop-voice l = Voicing 8 l.bits l.chip l.memory l.writes l.initial.map l.map l.voice l.rest
-
-abbrev pub decreases-loop-voice : goal.decreases-loop-voice
-decreases-loop-voice l = 8 - l.voice
+invariant-loop-voice l = Voicing 8 l.bits l.chip l.memory l.writes l.initial.map l.map l.voice
