@@ -18,16 +18,7 @@ impl Processor {
     pub fn with_state(self, state: State) -> Processor
         ensures { result ≡ with_state state self }
     {
-        let psw = self.psw;
-        Processor {
-            a: self.a,
-            x: self.x,
-            y: self.y,
-            sp: self.sp,
-            pc: self.pc,
-            psw,
-            state,
-        }
+        Processor { state, ..self }
     }
 
     // The record awake.
