@@ -1,6 +1,5 @@
 -- The stores, then the branch.
 -- Assumes nothing.
-use borrow.Author.Rules.{rules}
 use Rattle.memory.proofs.Laws.{accesses}
 use Rattle.instructions.specs.Step.{finish_of}
 use Rattle.engine.proofs.phases.finish.Goals as goal

@@ -1,6 +1,5 @@
 -- What is read, what is made of it, what is stored.
 -- Assumes nothing.
-use borrow.Author.Rules.{rules}
 use Rattle.instructions.specs.Step.{finish_of, step_of}
 use Rattle.memory.proofs.Laws.{accesses, by}
 use Rattle.engine.proofs.phases.instruction.Goals as goal
