@@ -16,7 +16,7 @@ pub fn column_09(cpu: Processor, bus: &mut Bus, op: u8) -> Operands
     if op < 0xC0 {
         return several::direct_direct(cpu, bus);
     }
-    places::abs(cpu, bus, op)
+    places::place(modes::abs(cpu, bus), bus, op)
 }
 
 // Immediates; pushes and moves between registers, which read nothing.
@@ -25,7 +25,7 @@ pub fn column_0d(cpu: Processor, bus: &mut Bus, op: u8) -> Operands
     ensures { RowPerforms op cpu bus.old bus.new result }
 {
     match op {
-        opcodes::MOV_Y_IMM | opcodes::CMP_Y_IMM | opcodes::MOV_X_IMM => bytes::immediate(cpu, bus),
+        opcodes::MOV_Y_IMM | opcodes::CMP_Y_IMM | opcodes::MOV_X_IMM => bytes::byte_only(modes::fetch_u8(cpu, bus)),
         _ => bytes::implied(cpu),
     }
 }
@@ -36,9 +36,9 @@ pub fn column_0e(cpu: Processor, bus: &mut Bus, op: u8) -> Operands
     ensures { RowPerforms op cpu bus.old bus.new result }
 {
     match op {
-        opcodes::TSET1_ABS | opcodes::TCLR1_ABS => bytes::absolute(cpu, bus),
-        opcodes::CBNE_D_R | opcodes::DBNZ_D_R => bytes::direct(cpu, bus),
-        _ => bytes::pulled(cpu, bus),
+        opcodes::TSET1_ABS | opcodes::TCLR1_ABS => places::load(modes::abs(cpu, bus), bus),
+        opcodes::CBNE_D_R | opcodes::DBNZ_D_R => places::load(modes::d(cpu, bus), bus),
+        _ => bytes::byte_only(modes::pull_from_stack_u8(cpu, bus)),
     }
 }
 
@@ -50,7 +50,7 @@ pub fn column_0f(cpu: Processor, bus: &mut Bus, op: u8) -> Operands
     match op {
         opcodes::BRK => ways::vector_at(cpu, bus, 0xFFDE),
         opcodes::PCALL => ways::upper_page(cpu, bus),
-        opcodes::RET => ways::pulled_word(cpu, bus),
+        opcodes::RET => places::aim(modes::pull_from_stack_u16(cpu, bus)),
         opcodes::MOV_D_IMM => several::immediate_to_direct(cpu, bus),
         opcodes::MOV_XINC_A => places::aim(modes::ix(cpu)),
         _ => bytes::implied(cpu),
@@ -65,7 +65,7 @@ pub fn column_18(cpu: Processor, bus: &mut Bus, op: u8) -> Operands
     if op < 0xC0 {
         return several::direct_immediate(cpu, bus);
     }
-    places::d(cpu, bus, op)
+    places::place(modes::d(cpu, bus), bus, op)
 }
 
 // (X),(Y); in the last two rows MOV d+Y,X and MOV X,d+Y.
@@ -76,7 +76,7 @@ pub fn column_19(cpu: Processor, bus: &mut Bus, op: u8) -> Operands
     if op < 0xC0 {
         return several::at_x_at_y(cpu, bus);
     }
-    places::dy(cpu, bus, op)
+    places::place(modes::dy(cpu, bus), bus, op)
 }
 
 // Words of the direct page; MOV d,d.
@@ -97,9 +97,9 @@ pub fn column_1e(cpu: Processor, bus: &mut Bus, op: u8) -> Operands
     ensures { RowPerforms op cpu bus.old bus.new result }
 {
     match op {
-        opcodes::CMP_X_ABS | opcodes::CMP_Y_ABS => bytes::absolute(cpu, bus),
-        opcodes::CMP_X_D | opcodes::CMP_Y_D => bytes::direct(cpu, bus),
-        opcodes::CBNE_DX_R => bytes::direct_x(cpu, bus),
+        opcodes::CMP_X_ABS | opcodes::CMP_Y_ABS => places::load(modes::abs(cpu, bus), bus),
+        opcodes::CMP_X_D | opcodes::CMP_Y_D => places::load(modes::d(cpu, bus), bus),
+        opcodes::CBNE_DX_R => places::load(modes::dx(cpu, bus), bus),
         _ => bytes::implied(cpu),
     }
 }
@@ -110,8 +110,8 @@ pub fn column_1f(cpu: Processor, bus: &mut Bus, op: u8) -> Operands
     ensures { RowPerforms op cpu bus.old bus.new result }
 {
     match op {
-        opcodes::JMP_IAX => ways::word_at_x(cpu, bus),
-        opcodes::CALL_ABS | opcodes::JMP_ABS => ways::word(cpu, bus),
+        opcodes::JMP_IAX => places::aim(modes::iax(cpu, bus)),
+        opcodes::CALL_ABS | opcodes::JMP_ABS => places::aim(modes::abs(cpu, bus)),
         opcodes::RETI => ways::pulled_three(cpu, bus),
         opcodes::MOV_A_XINC => places::load(modes::ix(cpu), bus),
         _ => bytes::implied(cpu),

@@ -1,11 +1,10 @@
 // Where to go: what jumps, calls and returns read.
 ghost use Rattle.std.specs.Prelude.{◌-◌, ◌*◌, ◌/◌};
 ghost use Rattle.memory.specs.Promises.{Performs};
-ghost use Rattle.instructions.specs.Rows.Mode.{upper_page, word, word_at_x, pulled_word, pulled_three};
+ghost use Rattle.instructions.specs.Rows.Mode.{upper_page, pulled_three};
 ghost use Rattle.instructions.specs.Gather.{vector};
 ghost use Rattle.gather.specs.Columns.{plainly};
 
-use crate::places::aim;
 use instructions::Operands;
 use memory::Bus;
 use processor::Processor;
@@ -43,27 +42,6 @@ pub fn table_vector(cpu: Processor, bus: &mut Bus, opcode: u8) -> Operands
     ensures { Performs (vector (0xFFDE - opcode / 16 * 2) cpu) bus.old bus.new result }
 {
     vector_at(cpu, bus, 0xFFDE - opcode as u16 / 16 * 2)
-}
-
-// CALL and JMP: an operand word.
-pub fn word(cpu: Processor, bus: &mut Bus) -> Operands
-    ensures { Performs (plainly word cpu) bus.old bus.new result }
-{
-    aim(modes::abs(cpu, bus))
-}
-
-// JMP [!a+X]: the word there.
-pub fn word_at_x(cpu: Processor, bus: &mut Bus) -> Operands
-    ensures { Performs (plainly word_at_x cpu) bus.old bus.new result }
-{
-    aim(modes::iax(cpu, bus))
-}
-
-// RET: a word from the stack.
-pub fn pulled_word(cpu: Processor, bus: &mut Bus) -> Operands
-    ensures { Performs (plainly pulled_word cpu) bus.old bus.new result }
-{
-    aim(modes::pull_from_stack_u16(cpu, bus))
 }
 
 // RETI: a byte from the stack, then a word.
