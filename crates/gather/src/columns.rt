@@ -25,7 +25,9 @@ pub fn column_0d(cpu: Processor, bus: &mut Bus, op: u8) -> Operands
     ensures { RowPerforms op cpu bus.old bus.new result }
 {
     match op {
-        opcodes::MOV_Y_IMM | opcodes::CMP_Y_IMM | opcodes::MOV_X_IMM => bytes::byte_only(modes::fetch_u8(cpu, bus)),
+        opcodes::MOV_Y_IMM | opcodes::CMP_Y_IMM | opcodes::MOV_X_IMM => bytes::byte_only(
+            modes::fetch_u8(cpu, bus),
+        ),
         _ => bytes::implied(cpu),
     }
 }

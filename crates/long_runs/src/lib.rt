@@ -66,7 +66,12 @@ fn instruction(cpu: Registers, edition: Edition, cells: &mut Cells) -> Registers
 }
 
 // Steps while budget is left and the record is awake.
-fn take_steps(start: Registers, edition: Edition, cells: &mut Cells, budget: u32) -> Taken<Registers>
+fn take_steps(
+    start: Registers,
+    edition: Edition,
+    cells: &mut Cells,
+    budget: u32,
+) -> Taken<Registers>
     ensures { Ends edition budget start (lent cells) result }
 {
     let mut next = start;
