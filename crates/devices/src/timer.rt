@@ -20,12 +20,10 @@ impl Timer {
         if !self.on {
             return self;
         }
-        let ticks = std::num::wrapping_add_u8(self.ticks, 1);
-        if ticks == self.target {
+        self.ticks = self.ticks.wrapping_add(1);
+        if self.ticks == self.target {
             self.ticks = 0;
-            self.count = (self.count % 16 + 1) % 16;
-        } else {
-            self.ticks = ticks;
+            self.count = self.count.wrapping_add(1) % 16;
         }
         self
     }
