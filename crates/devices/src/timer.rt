@@ -14,6 +14,7 @@ pub struct Timer {
 
 impl Timer {
     // A tick. The eight bits that count ticks come to a target of 0 at the 256th.
+    #[tactic(auto, unfolding(crate::specs::Timers::ticked))]
     pub fn tick(mut self) -> Timer
         ensures { result ≡ ticked self }
     {
@@ -29,6 +30,7 @@ impl Timer {
     }
 
     // Turned on or off. A timer that was off starts from zero.
+    #[tactic(auto, unfolding(crate::specs::Timers::switched))]
     pub fn switch(mut self, on: bool) -> Timer
         ensures { result ≡ switched on self }
     {
