@@ -40,6 +40,7 @@ fn fetch_blocks(start: u16, memory: &Memory, writes: &Map, map: &mut Map)
 }
 
 // Marks what may be fetched of a sample, given by its number: its entry in the directory, and the blocks from its start and from its loop.
+#[tactic(auto, unfolding(crate::specs::Fetched::sample))]
 fn fetch_sample(directory: u8, number: u8, memory: &Memory, writes: &Map, map: &mut Map)
     ensures { map.new ≡ sample directory number memory.now writes.now map.old }
 {
