@@ -1,6 +1,8 @@
 -- The two editions of the pointer rule, their numbers, and the one address that they do not share.
-use Rattle.std.specs.Prelude.{ℕ, ◌+◌, ◌*◌, ◌/◌, ◌%◌, Bool, cond, ◌||◌, ◌==◌}
+use Rattle.std.specs.Prelude.{ℕ, ◌+◌, ◌*◌, ◌/◌, ◌%◌, Bool, cond, ◌||◌, ◌==◌, Result, Ok, Err}
 use Rattle.memory.specs.Words.{next_of}
+use Rattle.refusals.specs.declared.Refusal.{Refusal}
+use Rattle.refusals.specs.declared.Refusal.TheVariants.{Edition as no_edition}
 use Rattle.editions.specs.declared.Edition.{Edition}
 use Rattle.editions.specs.declared.Edition.TheVariants.{First, Second}
 
@@ -23,3 +25,7 @@ is_edition number = number == 1 || number == 2
 -- The edition that a number names. It is asked of no other number, but has to be something there, too.
 abbrev pub edition_of : ℕ → Edition
 edition_of number = cond (number == 2) Second First
+
+-- The same, where a number that names none is refused.
+abbrev pub edition_named : ℕ → Result Edition Refusal
+edition_named number = cond (is_edition number) (Ok (edition_of number)) (Err no_edition)

@@ -2,9 +2,11 @@
 #![tactic(auto)]
 
 ghost use Rattle.std.specs.Prelude.{◌≡◌};
-ghost use Rattle.editions.specs.Editions.{is_edition, edition_of, second_at};
+ghost use Rattle.editions.specs.Editions.{is_edition, edition_of, edition_named, second_at};
 
-#[derive(Clone, Copy)]
+use refusals::Refusal;
+
+#[derive(Clone, Copy, Debug, PartialEq, Eq)]
 pub enum Edition {
     // the Rust crate's
     First,
@@ -30,12 +32,26 @@ pub fn edition_of(number: u8) -> Edition
     }
 }
 
+// The edition that a number names; any other number is refused.
+impl TryFrom<u8> for Edition {
+    type Error = Refusal;
+
+    ghost try_from_gives = { λ number result. result ≡ edition_named number };
+
+    fn try_from(number: u8) -> Result<Edition, Refusal> {
+        if !is_edition(number) {
+            return Err(Refusal::Edition);
+        }
+        Ok(edition_of(number))
+    }
+}
+
 // Where the second byte of a pointer stands whose first byte stands at an address.
 pub fn second_at(edition: Edition, at: u16) -> u16
     ensures { result ≡ second_at edition at }
 {
     match edition {
-        Edition::First => std::num::wrapping_add_u16(at, 1),
+        Edition::First => at.wrapping_add(1),
         Edition::Second => at / 256 * 256 + (at % 256 + 1) % 256,
     }
 }

@@ -1,8 +1,9 @@
 -- Which bytes of an image a run is made of. What is said here is said of `run_answer`, which is what the contract of `engine::run` says
 -- that the code answers and leaves in the lent memory and maps.
 -- Assumes nothing.
-use Rattle.std.specs.Prelude.{ℕ, ◌<◌, ◌≡◌, refl, ◌↔◌, true, List, length, get_or, replicate}
+use Rattle.std.specs.Prelude.{ℕ, ◌<◌, ◌≡◌, refl, ◌↔◌, true, List, length, get_or, replicate, Result, Ok}
 use borrow.Author.Tests.{eq-eqb}
+use Rattle.refusals.specs.declared.Refusal.{Refusal}
 use Rattle.marks.specs.Maps.{is_marked}
 use Rattle.memory.specs.World.{World, world}
 use Rattle.memory.specs.Access.{Outcome}
@@ -26,7 +27,7 @@ abbrev pub clear : List ℕ
 clear = replicate 8192 0
 
 -- What a run in an edition on an image, from clear maps, answers and leaves.
-abbrev pub played : Edition → ℕ → Processor → List ℕ → Outcome World Ran
+abbrev pub played : Edition → ℕ → Processor → List ℕ → Outcome World (Result Ran Refusal)
 played edition budget cpu image = run_answer (number_of edition) budget cpu (world image clear clear)
 
 -- The read map that it leaves.
@@ -39,7 +40,7 @@ accesses edition budget cpu image = trace (counted_step edition) budget cpu (wor
 
 same_accepted : {image second : List ℕ} {o q : Outcome World (Progress Processor)} → Same image second o q
     → Same image second (accepted o) (accepted q)
-same_accepted = same_through answer_of
+same_accepted = same_through (λ p. Ok (answer_of p))
 
 -- Of one edition, whichever it is; of one budget and one record.
 module _ (edition : Edition) (budget : ℕ) (cpu : Processor) where

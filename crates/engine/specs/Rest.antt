@@ -1,8 +1,8 @@
 -- SLEEP and STOP put a record to rest, and nothing else does. There it stays, whatever step or run is called, until it is woken.
 -- Assumes nothing.
-use Rattle.std.specs.Prelude.{ℕ, ◌+◌, ◌≡◌, true, false}
-use Rattle.std.proofs.Common.{ap, ◌∙◌, add-zero, eq-eqb, ne_eqb}
-use Rattle.std.proofs.Math.Decide.{ℕ_discrete}
+use Rattle.std.specs.Prelude.{ℕ, ◌+◌, ◌≡◌, refl, true, false, Option, Some, None, Result, Ok, IfOk}
+use Rattle.refusals.specs.declared.Refusal.{Refusal}
+use Rattle.std.proofs.Common.{ap, ◌∙◌, add-zero, ne_eqb}
 use Rattle.waking.specs.States.{number_of, is_awake}
 use Rattle.waking.specs.Theorems.{awake_is_zero}
 use Rattle.memory.specs.World.{World, byte_at, seen}
@@ -15,10 +15,10 @@ use Rattle.instructions.specs.Order.{after_opcode, opcode_first}
 use Rattle.instructions.specs.States.{state_after}
 use Rattle.instructions.specs.Step.{step_of}
 use Rattle.instructions.proofs.States.{ends_performed, after_opcode_lem}
-use Rattle.runs.specs.Run.{rested, joined}
+use Rattle.runs.specs.Run.{Progress, rested, joined}
 use Rattle.runs.specs.Trace.{taken}
 use Rattle.runs.proofs.Run.{run_rests}
-use Rattle.engine.specs.Entry.{ran, refusal_of, counted_step, run_of, run_answer}
+use Rattle.engine.specs.Entry.{ran, refusal_of, answered, counted_step, run_of, run_answer}
 use Rattle.engine.specs.Accepted.{accepts, sized}
 use Rattle.engine.specs.Theorems.{no_step, in_parts, run_keeps}
 use Rattle.engine.specs.declared.Ran.{Ran}
@@ -38,10 +38,10 @@ pub identity : (edition : Edition) (budget : ℕ) (cpu : Processor) (w : World) 
     → run_of edition budget cpu w ≡ rested cpu w
 identity edition budget cpu w rest = run_rests (taken (counted_step edition)) cpu w (no_step edition cpu w rest) budget
 
--- As it is called, it answers the number of the record's state as its stop.
-pub identity_called : (number budget : ℕ) (cpu : Processor) (w : World) → refusal_of number w ≡ 0 → is_awake cpu.state ≡ false
-    → run_answer number budget cpu w ≡ outcome (ran 0 cpu 0 (number_of cpu.state)) w
-identity_called number budget cpu w z rest = rw (eq-eqb _ _ z, identity (edition_of number) budget cpu w rest)
+-- As it is called, it answers the record as given, whose state says the stop, and no step.
+pub identity_called : (number budget : ℕ) (cpu : Processor) (w : World) → refusal_of number w ≡ None → is_awake cpu.state ≡ false
+    → run_answer number budget cpu w ≡ outcome (Ok (ran cpu 0)) w
+identity_called number budget cpu w z rest = rw (z, identity (edition_of number) budget cpu w rest)
 
 -- A run that ends with the record at rest is the run of every larger budget, too.
 pub larger_budget : (edition : Edition) (m n : ℕ) (cpu : Processor) (w : World)
@@ -50,20 +50,27 @@ larger_budget edition m n cpu w rest =
     let o = run_of edition m cpu w in
     in_parts edition m n cpu w ∙ ap (joined o) (identity edition n o.result.regs o.left rest) ∙ rw add-zero
 
--- Let a run answer a stop other than 0. Called again on what it left, with any budget and in either edition, it answers that stop and 0
--- steps, and changes nothing.
+-- Let a run be accepted and answer a stop other than 0. Called again on what it left, with any budget and in either edition, it answers that
+-- stop and 0 steps, and changes nothing.
 module _ (number budget : ℕ) (cpu : Processor) (w : World) where
-  abbrev pub first : Outcome World Ran
+  abbrev pub first : Outcome World (Result Ran Refusal)
   first = run_answer number budget cpu w
 
-  pub called_again : (first.result.stop ≡ 0 → ⊥) → (again more : ℕ) → is_edition again ≡ true
-      → run_answer again more first.result.cpu first.left ≡ outcome (ran 0 first.result.cpu 0 first.result.stop) first.left
-  called_again stops again more named =
-      elim (ℕ_discrete (refusal_of number w) 0) [
-        | no n ↦ absurd (stops (rw (ne_eqb _ _ n)))
-        | yes z ↦
-            let o = run_of (edition_of number) budget cpu w in
-            let rest : is_awake o.result.regs.state ≡ false = awake_is_zero o.result.regs.state ∙ ne_eqb _ _ (rw (eq-eqb _ _ z) at stops) in
-            let size = (run_keeps (edition_of number) budget cpu w (sized number w z)).sized in
-            rw (eq-eqb _ _ z) (identity_called again more o.result.regs o.left (accepts again o.left named size) rest)
-      ]
+  -- what is said of its answer
+  abbrev pub StaysAtRest : World → Ran → Type 0
+  StaysAtRest left r =
+      (number_of r.cpu.state ≡ 0 → ⊥) → (again more : ℕ) → is_edition again ≡ true
+      → run_answer again more r.cpu left ≡ outcome (Ok (ran r.cpu 0)) left
+
+  pub called_again : IfOk first.result (StaysAtRest first.left)
+  called_again = go (refusal_of number w) refl
+    where
+      o : Outcome World (Progress Processor)
+      o = run_of (edition_of number) budget cpu w
+
+      go : (r : Option Refusal) → refusal_of number w ≡ r → IfOk (answered r w o).result (StaysAtRest (answered r w o).left)
+      go (Some r) e = tt
+      go None z = λ stops again more named.
+          let rest : is_awake o.result.regs.state ≡ false = awake_is_zero o.result.regs.state ∙ ne_eqb _ _ stops in
+          let size = (run_keeps (edition_of number) budget cpu w (sized number w z)).sized in
+          identity_called again more o.result.regs o.left (accepts again o.left named size) rest

@@ -16,7 +16,7 @@ use Rattle.instructions.proofs.SoFar as loop
 use Rattle.runs.specs.Run.{rested, joined}
 use Rattle.runs.specs.Trace.{taken}
 use Rattle.runs.proofs.Run as runs
-use Rattle.engine.specs.Entry.{answered, counted_step, run_of, step_answer, run_answer}
+use Rattle.engine.specs.Entry.{answered, refusal_of, counted_step, run_of, step_answer, run_answer}
 
 abbrev awake : Processor → Bool
 awake cpu = is_awake cpu.state
@@ -59,4 +59,4 @@ module _ (edition : Edition) where
 
 -- A step answers what a run of budget 1 answers, refused or not, whatever number it is given for an edition, and leaves the same.
 pub step_is_run_of_one : (number : ℕ) (cpu : Processor) (w : World) → step_answer number cpu w ≡ run_answer number 1 cpu w
-step_is_run_of_one number cpu w = ap (answered number cpu w) (sym (runs.run_one (taken (counted_step (edition_of number))) cpu w))
+step_is_run_of_one number cpu w = ap (answered (refusal_of number w) w) (sym (runs.run_one (taken (counted_step (edition_of number))) cpu w))

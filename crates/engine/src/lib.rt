@@ -3,130 +3,78 @@
 
 mod phases;
 
-ghost use Rattle.std.specs.Prelude.{◌≡◌};
-ghost use Rattle.laws.specs.Lent.{shared, lent};
-ghost use Rattle.memory.specs.Promises.{before, Ready, Yields};
-ghost use Rattle.engine.specs.Entry.{ran, accepted, refusal_of, run_of, step_answer, run_answer};
+ghost use Rattle.laws.specs.Lent.{lent};
+ghost use Rattle.memory.specs.Promises.{Answers, Yields};
+ghost use Rattle.engine.specs.Entry.{told, run_of, step_answer, run_answer};
 
 use editions::Edition;
+use marks::Map;
+use memory::{Bus, Memory};
 use processor::Processor;
+use refusals::Refusal;
 
-// What a step or a run answers. Refused: `refusal` is its number, the record is as given, the other numbers are 0.
+// What a step or a run leaves: the record, whose state says why it ended, and how many steps were taken.
 #[derive(Drop)]
 pub struct Ran {
-    pub refusal: u8,
     pub cpu: Processor,
     pub steps: u32,
-    pub stop: u8,
 }
 
-fn refused(refusal: u8, cpu: Processor) -> Ran
-    ensures { result ≡ ran refusal cpu 0 0 }
-{
-    Ran {
-        refusal,
-        cpu,
-        steps: 0,
-        stop: 0,
-    }
-}
-
-// The number of the first test that the edition and the lengths of memory and maps do not pass, or 0.
-fn refusal_of(edition: u8, memory: &[u8], reads: &[u8], writes: &[u8]) -> u8
-    ensures { result ≡ refusal_of edition (before (shared memory) (shared reads) (shared writes)) }
-{
-    if !editions::is_edition(edition) {
-        return 9;
-    }
-    if memory.len() != 65536 {
-        return 1;
-    }
-    if reads.len() != 8192 {
-        return 2;
-    }
-    if writes.len() != 8192 {
-        return 2;
-    }
-    0
-}
-
-// Steps while budget is left and the record is awake, on memory and maps whose lengths are known.
-fn take_steps(
-    cpu: Processor,
-    edition: Edition,
-    memory: &mut [u8],
-    reads: &mut [u8],
-    writes: &mut [u8],
-    budget: u32,
-) -> Ran
-    requires { Ready memory.old reads.old writes.old }
-    ensures { Yields (λ w. accepted (run_of edition budget cpu w)) (lent memory) (lent reads) (lent writes) result }
+// Steps while budget is left and the record is awake.
+pub fn take_steps(cpu: Processor, edition: Edition, bus: &mut Bus, budget: u32) -> Ran
+    ensures { Answers (λ w. told (run_of edition budget cpu w)) bus.old bus.new result }
 {
     let mut next = cpu;
     let mut left: u32 = budget;
     while left > 0 && next.is_awake() {
-        next = phases::instruction(next, edition, memory, reads, writes);
+        next = phases::instruction(next, edition, bus);
         left = left - 1;
     }
     let steps = budget - left;
-    let state = next.state;
-    Ran {
-        refusal: 0,
-        cpu: next,
-        steps,
-        stop: waking::number_of(state),
-    }
+    Ran { cpu: next, steps }
 }
 
-// A run by steps on the record, memory and maps.
-fn run_short(
+// The same steps on flat registers and cells, at a cost before the first step and behind the last. Not compiled into `run_on`, so that a
+// short run makes no room for the cells.
+#[inline(never)]
+fn take_long(cpu: Processor, edition: Edition, bus: &mut Bus, budget: u32) -> Ran
+    ensures { Answers (λ w. told (run_of edition budget cpu w)) bus.old bus.new result }
+{
+    take_steps(cpu, edition, bus, budget)
+}
+
+// A run on memory and maps that have their lengths, the way that is cheaper for its budget.
+pub fn run_on(cpu: Processor, edition: Edition, bus: &mut Bus, budget: u32) -> Ran
+    ensures { Answers (λ w. told (run_of edition budget cpu w)) bus.old bus.new result }
+{
+    // where the long way begins to pay: docs/DECISIONS.md
+    if budget < 12000 {
+        return take_steps(cpu, edition, bus, budget);
+    }
+    take_long(cpu, edition, bus, budget)
+}
+
+// The same, on memory and maps that are lent one by one.
+fn run_within(
     cpu: Processor,
-    edition: u8,
-    memory: &mut [u8],
-    reads: &mut [u8],
-    writes: &mut [u8],
+    edition: Edition,
+    memory: &mut Memory,
+    reads: &mut Map,
+    writes: &mut Map,
     budget: u32,
 ) -> Ran
-    ensures { Yields (run_answer edition budget cpu) (lent memory) (lent reads) (lent writes) result }
+    ensures { Yields (λ w. told (run_of edition budget cpu w)) (lent memory) (lent reads) (lent writes) result }
 {
-    let refusal = refusal_of(edition, memory, reads, writes);
-    if refusal != 0 {
-        return refused(refusal, cpu);
-    }
-    let edition = editions::edition_of(edition);
-    take_steps(cpu, edition, memory, reads, writes, budget)
+    let mut bus = Bus {
+        memory,
+        reads,
+        writes,
+    };
+    run_on(cpu, edition, &mut bus, budget)
 }
 
-// A run by steps on flat registers and cells: the same answer, at a cost before the first step and behind the last.
-fn run_long(
-    cpu: Processor,
-    edition: u8,
-    memory: &mut [u8],
-    reads: &mut [u8],
-    writes: &mut [u8],
-    budget: u32,
-) -> Ran
-    ensures { Yields (run_answer edition budget cpu) (lent memory) (lent reads) (lent writes) result }
-{
-    let refusal = refusal_of(edition, memory, reads, writes);
-    if refusal != 0 {
-        return refused(refusal, cpu);
-    }
-    let edition = editions::edition_of(edition);
-    let taken = long_runs::run(cpu, edition, memory, reads, writes, budget);
-    let next = taken.cpu;
-    let state = next.state;
-    Ran {
-        refusal: 0,
-        cpu: next,
-        steps: taken.steps,
-        stop: waking::number_of(state),
-    }
-}
-
-// A run in one edition, given by its number: as many steps as the budget has (stop 0), or fewer where SLEEP (stop 1) or STOP (stop 2) ends
-// it. A record that one of the two has put to rest takes no step until it is woken, and gives that stop again. Refusals: 9 the edition is
-// neither 1 nor 2, 1 memory is not 65,536 bytes, 2 a map is not 8,192 bytes.
+// A run in one edition, given by its number: as many steps as the budget has, or fewer where SLEEP or STOP ends it. A record that one of the
+// two has put to rest takes no step until it is woken. Refusals: Edition, neither 1 nor 2; Memory, not 65,536 bytes; Map, not 8,192 bytes.
 pub fn run(
     cpu: Processor,
     edition: u8,
@@ -134,14 +82,20 @@ pub fn run(
     reads: &mut [u8],
     writes: &mut [u8],
     budget: u32,
-) -> Ran
+) -> Result<Ran, Refusal>
     ensures { Yields (run_answer edition budget cpu) (lent memory) (lent reads) (lent writes) result }
 {
-    // where the long way begins to pay: docs/DECISIONS.md
-    if budget < 12000 {
-        return run_short(cpu, edition, memory, reads, writes, budget);
-    }
-    run_long(cpu, edition, memory, reads, writes, budget)
+    let edition = Edition::try_from(edition)?;
+    let Some(memory) = memory.as_mut_array::<65536>() else {
+        return Err(Refusal::Memory);
+    };
+    let Some(reads) = reads.as_mut_array::<8192>() else {
+        return Err(Refusal::Map);
+    };
+    let Some(writes) = writes.as_mut_array::<8192>() else {
+        return Err(Refusal::Map);
+    };
+    Ok(run_within(cpu, edition, memory, reads, writes, budget))
 }
 
 // One step: a run of budget 1, so that the step loop is the one caller of `instruction`, which is then compiled into it
@@ -152,8 +106,8 @@ pub fn step(
     memory: &mut [u8],
     reads: &mut [u8],
     writes: &mut [u8],
-) -> Ran
+) -> Result<Ran, Refusal>
     ensures { Yields (step_answer edition cpu) (lent memory) (lent reads) (lent writes) result }
 {
-    run_short(cpu, edition, memory, reads, writes, 1)
+    run(cpu, edition, memory, reads, writes, 1)
 }

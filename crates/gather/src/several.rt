@@ -1,31 +1,23 @@
 // Modes that read more than one thing.
 ghost use Rattle.std.specs.Prelude.{◌^◌, ◌≤◌, ◌≡◌};
-ghost use Rattle.laws.specs.Lent.{shared, lent};
-ghost use Rattle.memory.specs.Promises.{Ready, Performs};
+ghost use Rattle.memory.specs.Promises.{Performs};
 ghost use Rattle.instructions.specs.Rows.Mode.{direct_direct, direct_to_direct, direct_immediate, immediate_to_direct, at_x_at_y, direct_word, to_direct_word, memory_bit};
 ghost use Rattle.instructions.specs.Gather.{both_loaded, source_loaded};
 ghost use Rattle.gather.specs.Columns.{plainly};
 
 use instructions::Operands;
+use memory::Bus;
 use modes::Addressed;
 use processor::Processor;
 
 // A source and a target, both read.
-fn load_both(
-    found: Addressed,
-    memory: &[u8],
-    reads: &mut [u8],
-    writes: &[u8],
-    source: u16,
-) -> Operands
-    requires { Ready memory.now reads.old writes.now }
-    ensures { Performs (both_loaded source found) (shared memory) (lent reads) (shared writes) result }
+fn load_both(found: Addressed, bus: &mut Bus, source: u16) -> Operands
+    ensures { Performs (both_loaded source found) bus.old bus.new result }
 {
-    let low = memory::read(memory, reads, writes, source);
-    let high = memory::read(memory, reads, writes, found.at);
-    let cpu = found.cpu;
+    let low = bus.read(source);
+    let high = bus.read(found.at);
     Operands {
-        cpu,
+        cpu: found.cpu,
         at: found.at,
         next: 0,
         low,
@@ -34,20 +26,12 @@ fn load_both(
 }
 
 // A target's address and a source that is read.
-fn load_source(
-    found: Addressed,
-    memory: &[u8],
-    reads: &mut [u8],
-    writes: &[u8],
-    source: u16,
-) -> Operands
-    requires { Ready memory.now reads.old writes.now }
-    ensures { Performs (source_loaded source found) (shared memory) (lent reads) (shared writes) result }
+fn load_source(found: Addressed, bus: &mut Bus, source: u16) -> Operands
+    ensures { Performs (source_loaded source found) bus.old bus.new result }
 {
-    let low = memory::read(memory, reads, writes, source);
-    let cpu = found.cpu;
+    let low = bus.read(source);
     Operands {
-        cpu,
+        cpu: found.cpu,
         at: found.at,
         next: 0,
         low,
@@ -56,39 +40,32 @@ fn load_source(
 }
 
 // d,d: the source's operand byte comes first.
-pub fn direct_direct(cpu: Processor, memory: &[u8], reads: &mut [u8], writes: &[u8]) -> Operands
-    requires { Ready memory.now reads.old writes.now }
-    ensures { Performs (plainly direct_direct cpu) (shared memory) (lent reads) (shared writes) result }
+pub fn direct_direct(cpu: Processor, bus: &mut Bus) -> Operands
+    ensures { Performs (plainly direct_direct cpu) bus.old bus.new result }
 {
-    let source = modes::d(cpu, memory, reads, writes);
-    let next = source.cpu;
-    let found = modes::d(next, memory, reads, writes);
-    load_both(found, memory, reads, writes, source.at)
+    let source = modes::d(cpu, bus);
+    let found = modes::d(source.cpu, bus);
+    load_both(found, bus, source.at)
 }
 
 // d,d for MOV, which does not read its target.
-pub fn direct_to_direct(cpu: Processor, memory: &[u8], reads: &mut [u8], writes: &[u8]) -> Operands
-    requires { Ready memory.now reads.old writes.now }
-    ensures { Performs (plainly direct_to_direct cpu) (shared memory) (lent reads) (shared writes) result }
+pub fn direct_to_direct(cpu: Processor, bus: &mut Bus) -> Operands
+    ensures { Performs (plainly direct_to_direct cpu) bus.old bus.new result }
 {
-    let source = modes::d(cpu, memory, reads, writes);
-    let next = source.cpu;
-    let found = modes::d(next, memory, reads, writes);
-    load_source(found, memory, reads, writes, source.at)
+    let source = modes::d(cpu, bus);
+    let found = modes::d(source.cpu, bus);
+    load_source(found, bus, source.at)
 }
 
 // d,#i: the immediate comes first.
-pub fn direct_immediate(cpu: Processor, memory: &[u8], reads: &mut [u8], writes: &[u8]) -> Operands
-    requires { Ready memory.now reads.old writes.now }
-    ensures { Performs (plainly direct_immediate cpu) (shared memory) (lent reads) (shared writes) result }
+pub fn direct_immediate(cpu: Processor, bus: &mut Bus) -> Operands
+    ensures { Performs (plainly direct_immediate cpu) bus.old bus.new result }
 {
-    let immediate = modes::fetch_u8(cpu, memory, reads, writes);
-    let next = immediate.cpu;
-    let found = modes::d(next, memory, reads, writes);
-    let high = memory::read(memory, reads, writes, found.at);
-    let after = found.cpu;
+    let immediate = modes::fetch_u8(cpu, bus);
+    let found = modes::d(immediate.cpu, bus);
+    let high = bus.read(found.at);
     Operands {
-        cpu: after,
+        cpu: found.cpu,
         at: found.at,
         next: 0,
         low: immediate.byte,
@@ -97,21 +74,13 @@ pub fn direct_immediate(cpu: Processor, memory: &[u8], reads: &mut [u8], writes:
 }
 
 // d,#i for MOV, which does not read its target.
-pub fn immediate_to_direct(
-    cpu: Processor,
-    memory: &[u8],
-    reads: &mut [u8],
-    writes: &[u8],
-) -> Operands
-    requires { Ready memory.now reads.old writes.now }
-    ensures { Performs (plainly immediate_to_direct cpu) (shared memory) (lent reads) (shared writes) result }
+pub fn immediate_to_direct(cpu: Processor, bus: &mut Bus) -> Operands
+    ensures { Performs (plainly immediate_to_direct cpu) bus.old bus.new result }
 {
-    let immediate = modes::fetch_u8(cpu, memory, reads, writes);
-    let next = immediate.cpu;
-    let found = modes::d(next, memory, reads, writes);
-    let after = found.cpu;
+    let immediate = modes::fetch_u8(cpu, bus);
+    let found = modes::d(immediate.cpu, bus);
     Operands {
-        cpu: after,
+        cpu: found.cpu,
         at: found.at,
         next: 0,
         low: immediate.byte,
@@ -120,25 +89,22 @@ pub fn immediate_to_direct(
 }
 
 // (X),(Y): (Y) is the source.
-pub fn at_x_at_y(cpu: Processor, memory: &[u8], reads: &mut [u8], writes: &[u8]) -> Operands
-    requires { Ready memory.now reads.old writes.now }
-    ensures { Performs (plainly at_x_at_y cpu) (shared memory) (lent reads) (shared writes) result }
+pub fn at_x_at_y(cpu: Processor, bus: &mut Bus) -> Operands
+    ensures { Performs (plainly at_x_at_y cpu) bus.old bus.new result }
 {
     let source = modes::iy(cpu);
-    load_both(modes::ix(cpu), memory, reads, writes, source.at)
+    load_both(modes::ix(cpu), bus, source.at)
 }
 
 // A word of the direct page.
-pub fn direct_word(cpu: Processor, memory: &[u8], reads: &mut [u8], writes: &[u8]) -> Operands
-    requires { Ready memory.now reads.old writes.now }
-    ensures { Performs (plainly direct_word cpu) (shared memory) (lent reads) (shared writes) result }
+pub fn direct_word(cpu: Processor, bus: &mut Bus) -> Operands
+    ensures { Performs (plainly direct_word cpu) bus.old bus.new result }
 {
-    let found = modes::dw(cpu, memory, reads, writes);
-    let low = memory::read(memory, reads, writes, found.low);
-    let high = memory::read(memory, reads, writes, found.high);
-    let after = found.cpu;
+    let found = modes::dw(cpu, bus);
+    let low = bus.read(found.low);
+    let high = bus.read(found.high);
     Operands {
-        cpu: after,
+        cpu: found.cpu,
         at: found.low,
         next: found.high,
         low,
@@ -147,14 +113,12 @@ pub fn direct_word(cpu: Processor, memory: &[u8], reads: &mut [u8], writes: &[u8
 }
 
 // The place of a word of the direct page.
-pub fn to_direct_word(cpu: Processor, memory: &[u8], reads: &mut [u8], writes: &[u8]) -> Operands
-    requires { Ready memory.now reads.old writes.now }
-    ensures { Performs (plainly to_direct_word cpu) (shared memory) (lent reads) (shared writes) result }
+pub fn to_direct_word(cpu: Processor, bus: &mut Bus) -> Operands
+    ensures { Performs (plainly to_direct_word cpu) bus.old bus.new result }
 {
-    let found = modes::dw(cpu, memory, reads, writes);
-    let after = found.cpu;
+    let found = modes::dw(cpu, bus);
     Operands {
-        cpu: after,
+        cpu: found.cpu,
         at: found.low,
         next: found.high,
         low: 0,
@@ -171,15 +135,13 @@ fn bit_value(bit: u8) -> u8
 }
 
 // A byte and one of its bits, by its value.
-pub fn memory_bit(cpu: Processor, memory: &[u8], reads: &mut [u8], writes: &[u8]) -> Operands
-    requires { Ready memory.now reads.old writes.now }
-    ensures { Performs (plainly memory_bit cpu) (shared memory) (lent reads) (shared writes) result }
+pub fn memory_bit(cpu: Processor, bus: &mut Bus) -> Operands
+    ensures { Performs (plainly memory_bit cpu) bus.old bus.new result }
 {
-    let found = modes::bit_operand(cpu, memory, reads, writes);
-    let low = memory::read(memory, reads, writes, found.at);
-    let after = found.cpu;
+    let found = modes::bit_operand(cpu, bus);
+    let low = bus.read(found.at);
     Operands {
-        cpu: after,
+        cpu: found.cpu,
         at: found.at,
         next: 0,
         low,

@@ -5,9 +5,8 @@ use mathlib.Core.Path.{◌≡◌, ap, sym, ◌∙◌}
 use mathlib.Core.Bool.{Bool, true, false}
 use native.Mathlib.Omega.{arith}
 use Rattle.waking.specs.States.{is_awake}
-use Rattle.memory.specs.World.{World, Sized}
+use Rattle.memory.specs.World.{World}
 use Rattle.memory.specs.Access.{Outcome, outcome, perform, Does}
-use Rattle.memory.specs.Theorems.{marks_stay}
 use Rattle.memory.proofs.Laws.{chain, ends}
 use Rattle.editions.specs.declared.Edition.{Edition}
 use Rattle.processor.specs.declared.Processor.{Processor}
@@ -20,7 +19,6 @@ use Rattle.instructions.specs.Runs.{counted_step, run_of}
 -- Of a run in an edition with a budget, from a record and a world, so much of the budget is left; the steps so far gave this record, and
 -- left this world.
 pub record SoFar (edition : Edition) (budget : ℕ) (cpu : Processor) (w : World) (next : Processor) (left : ℕ) (now : World) : Type 0 where
-  pub sized : Sized now
   pub within : left ≤ budget
   pub is : run_of edition (budget - left) cpu w ≡ outcome (progress next (budget - left)) now
 
@@ -37,9 +35,9 @@ unfolding counted_step perform
 no_step edition cpu w e = rw e
 
 -- nothing is done yet
-pub begun : {edition : Edition} {budget : ℕ} {cpu : Processor} {w : World} → Sized w → SoFar edition budget cpu w cpu budget w
+pub begun : {edition : Edition} {budget : ℕ} {cpu : Processor} {w : World} → SoFar edition budget cpu w cpu budget w
 unfolding run
-begun {budget = budget} s = record { sized = s; within = omega arith; is = let none : budget - budget ≡ 0 = omega arith in rw none }
+begun {budget = budget} = record { within = omega arith; is = let none : budget - budget ≡ 0 = omega arith in rw none }
 
 module _ {edition : Edition} {budget : ℕ} {cpu : Processor} {w : World} {next : Processor} {left : ℕ} {now : World}
     (sofar : SoFar edition budget cpu w next left now) where
@@ -49,7 +47,6 @@ module _ {edition : Edition} {budget : ℕ} {cpu : Processor} {w : World} {next 
       → SoFar edition budget cpu w stepped (left - 1) after
   one_more more tested t does =
       let one : budget - (left - 1) ≡ budget - left + 1 = omega (arith, sofar.within) in record {
-        sized = rw (ap (λ o. o.left) does.is) (marks_stay (step_of edition next) now sofar.sized).sized;
         within = omega (arith, sofar.within);
         is = rw one (run_next (taken (counted_step edition)) _ _ _ _ _ sofar.is (counted edition _ _ (sym tested ∙ t) does));
       }

@@ -10,11 +10,12 @@ use lib.Bits.{bit_and, and_shr, and_mod, and_lt, and_le_l}
 use lib.Count.{ones, ones-le}
 use lib.Dec.{eqb}
 use lib.ListN.{length, get_or}
-use mir.Syntax.{w8, w32}
+use mir.Syntax.{w32}
 use mir.Val.{Fits}
 use Rattle.laws.specs.Table.{same_grid}
 use Rattle.marks.specs.Maps.{is_marked}
 use Rattle.marks.specs.Counts.{how_many, read_only, stored_only, read_and_stored, marked_so}
+use Rattle.marks.specs.declared.Counted.{Counted}
 use Rattle.marks.specs.HowMany.{same_tests, apart, at_most, ones_are}
 
 -- ---- bits of a byte
@@ -35,10 +36,6 @@ not_bit = same_grid 256 8 (λ a j. bit (255 - a) j) (λ a j. not (bit a j)) refl
 alone : (a b j : ℕ) → b < 256 → j < 8 → bit (bit_and a (255 - b)) j ≡ (bit a j && not (bit b j))
 alone a b j h q = rw (and_bit, not_bit b j h q)
 
--- what a byte shares with any number has at most eight ones
-pub few_of_both : (a b : ℕ) → Fits w8 a → ones (bit_and a b) ≤ 8
-few_of_both a b h = let less = and_le_l a b in ones-le 8 (bit_and a b) (omega arith)
-
 -- the eight addresses of byte i
 bit_at : (map : List ℕ) (i j : ℕ) → j < 8 → is_marked map (8 * i + j) ≡ bit (get_or map i 0) j
 bit_at map i j h =
@@ -52,42 +49,55 @@ bit_at map i j h =
 abbrev up_to : (Bool → Bool → Bool) → List ℕ → List ℕ → ℕ → ℕ
 up_to so reads writes i = how_many (8 * i) (marked_so so reads writes)
 
--- Where a byte has the bits that byte i of the two maps has so, its ones are what a sum up to there lacks.
-byte_more : (so : Bool → Bool → Bool) (reads writes : List ℕ) (i x : ℕ) {sum : ℕ} → sum ≡ up_to so reads writes i → x < 256
-    → ((j : ℕ) → j < 8 → bit x j ≡ so (bit (get_or reads i 0) j) (bit (get_or writes i 0) j)) → sum + ones x ≡ up_to so reads writes (i + 1)
-byte_more so reads writes i x e fits bits =
-    let next : 8 * (i + 1) ≡ 8 * i + 8 = omega arith in
-    let eight : ones x ≡ how_many 8 (λ j. marked_so so reads writes (8 * i + j)) =
-    ones_are 8 x fits ∙ same_tests 8 _ _ (λ j h. rw (bit_at reads i j h, bit_at writes i j h) (bits j h)) in
-    rw (e, next, eight) (sym (apart (8 * i) 8 (marked_so so reads writes)))
-
--- Such a sum is small, and so it fits also with a byte's ones more.
-pub room : (so : Bool → Bool → Bool) (reads writes : List ℕ) (sum i n : ℕ) → i < length reads → sum ≡ up_to so reads writes i
-    → length reads ≡ 8192 → n ≤ 8 → Fits w32 (sum + n)
-room so reads writes sum i n h e size few = omega (arith, at_most (8 * i) (marked_so so reads writes))
-
 -- ---- the loop's invariant
 
 -- After i bytes of each map the three sums are the numbers of addresses in these bytes.
-pub record SoFar (reads writes : List ℕ) (only_read only_stored in_both i : ℕ) : Type 0 where
+pub record SoFar (reads writes : List ℕ) (counted : Counted) (i : ℕ) : Type 0 where
   pub within : i ≤ length reads
-  pub read_only : only_read ≡ up_to read_only reads writes i
-  pub stored_only : only_stored ≡ up_to stored_only reads writes i
-  pub both : in_both ≡ up_to read_and_stored reads writes i
+  pub read_only : counted.read_only ≡ up_to read_only reads writes i
+  pub stored_only : counted.stored_only ≡ up_to stored_only reads writes i
+  pub both : counted.both ≡ up_to read_and_stored reads writes i
+
+-- A turn has byte i of each map.
+pub record Turn (reads writes : List ℕ) (i read stored : ℕ) : Type 0 where
+  pub within : i < length reads
+  pub of_reads : read ≡ get_or reads i 0
+  pub of_writes : stored ≡ get_or writes i 0
+  pub read_fits : read < 256
+  pub stored_fits : stored < 256
 
 module _ (reads writes : List ℕ) where
-  pub at_first : SoFar reads writes 0 0 0 0
+  pub at_first : {c : Counted} → c.read_only ≡ 0 → c.stored_only ≡ 0 → c.both ≡ 0 → SoFar reads writes c 0
   unfolding how_many
-  at_first = record { within = omega arith; read_only = refl; stored_only = refl; both = refl }
+  at_first r w b = record { within = omega arith; read_only = r; stored_only = w; both = b }
 
-  pub one_more : {r w b i : ℕ} → SoFar reads writes r w b i → i < length reads → Fits w8 (get_or reads i 0) → Fits w8 (get_or writes i 0)
-      → SoFar reads writes (r + ones (bit_and (get_or reads i 0) (255 - get_or writes i 0)))
-      (w + ones (bit_and (get_or writes i 0) (255 - get_or reads i 0))) (b + ones (bit_and (get_or reads i 0) (get_or writes i 0))) (i + 1)
-  one_more {i = i} sofar h x y = record {
-    within = omega arith;
-    read_only =
-        byte_more read_only reads writes i _ sofar.read_only (and_lt 8 _ _ x.fits (omega arith)) (λ j. alone _ _ j y.fits);
-    stored_only =
-        byte_more stored_only reads writes i _ sofar.stored_only (and_lt 8 _ _ y.fits (omega arith)) (λ j. alone _ _ j x.fits);
-    both = byte_more read_and_stored reads writes i _ sofar.both (and_lt 8 _ _ x.fits y.fits) (λ j q. and_bit _ _ j);
-  }
+  module _ {i read stored : ℕ} (turn : Turn reads writes i read stored) where
+    -- Such a sum is small, and so it fits also with the ones more that a byte shares with any number.
+    pub room : (so : Bool → Bool → Bool) {sum x : ℕ} (y : ℕ) → sum ≡ up_to so reads writes i → length reads ≡ 8192 → x < 256
+        → Fits w32 (sum + ones (bit_and x y))
+    room so {x = x} y e size h =
+        let few = ones-le 8 (bit_and x y) (omega (arith, and_le_l x y)) in
+        omega (arith, at_most (8 * i) (marked_so so reads writes), turn.within)
+
+    -- Where a byte has the bits that the turn's two have so, its ones are what a sum up to there lacks.
+    byte_more : (so : Bool → Bool → Bool) {sum x : ℕ} → sum ≡ up_to so reads writes i → x < 256
+        → ((j : ℕ) → j < 8 → bit x j ≡ so (bit read j) (bit stored j)) → sum + ones x ≡ up_to so reads writes (i + 1)
+    byte_more so {x = x} e fits bits =
+        let next : 8 * (i + 1) ≡ 8 * i + 8 = omega arith in
+        let here : (j : ℕ) → j < 8 → bit x j ≡ marked_so so reads writes (8 * i + j) =
+        λ j h. bits j h ∙ rw (bit_at reads i j h, bit_at writes i j h, turn.of_reads, turn.of_writes) in
+        let eight : ones x ≡ how_many 8 (λ j. marked_so so reads writes (8 * i + j)) = ones_are 8 x fits ∙ same_tests 8 _ _ here in
+        rw (e, next, eight) (sym (apart (8 * i) 8 (marked_so so reads writes)))
+
+    pub one_more : {c : Counted} → SoFar reads writes c i
+        → SoFar reads writes (record {
+          read_only = c.read_only + ones (bit_and read (255 - stored));
+          stored_only = c.stored_only + ones (bit_and stored (255 - read));
+          both = c.both + ones (bit_and read stored);
+        }) (i + 1)
+    one_more so = record {
+      within = omega (arith, turn.within);
+      read_only = byte_more read_only so.read_only (and_lt 8 _ _ turn.read_fits (omega arith)) (λ j. alone _ _ j turn.stored_fits);
+      stored_only = byte_more stored_only so.stored_only (and_lt 8 _ _ turn.stored_fits (omega arith)) (λ j. alone _ _ j turn.read_fits);
+      both = byte_more read_and_stored so.both (and_lt 8 _ _ turn.read_fits turn.stored_fits) (λ j h. and_bit _ _ j);
+    }

@@ -1,6 +1,6 @@
 -- That document 01's count is the number of marked addresses, and that the three numbers of a count add up to it.
 -- Assumes nothing.
-use Rattle.std.specs.Prelude.{ℕ, suc, ◌+◌, ◌*◌, ◌/◌, ◌%◌, ◌^◌, ◌<◌, ◌≡◌, refl, List, [], ◌∷◌, eqb, length}
+use Rattle.std.specs.Prelude.{ℕ, suc, ◌+◌, ◌*◌, ◌/◌, ◌%◌, ◌^◌, ◌<◌, ◌≡◌, refl, List, [], ◌∷◌, eqb, length, IsOkAnd}
 use Rattle.std.proofs.Common.{sym, ◌∙◌, arith, eq-eqb}
 use Rattle.std.specs.Int.Count.{ones}
 use Rattle.laws.specs.Bytes.{Bytes}
@@ -31,8 +31,9 @@ marks_in_is map size bytes = let all : 8 * length map ≡ 65536 = omega arith in
         let split : 8 * suc (length map) ≡ 8 + 8 * length map = omega arith in
         rw (split, apart 8 (8 * length map) (λ k. is_marked (byte ∷ map) k), first, rest)
 
+-- So of two maps of 8,192 bytes, which are counted, the three numbers are these two counts.
 pub sums : (reads writes : List ℕ) → length reads ≡ 8192 → length writes ≡ 8192 → Bytes reads → Bytes writes
-    → Sums reads writes (counts_of reads writes)
+    → IsOkAnd (counts_of reads writes) (Sums reads writes)
 sums reads writes r w p q =
     rw (eq-eqb _ _ r, eq-eqb _ _ w)
     (record {

@@ -1,6 +1,8 @@
 -- One count over both maps: how many addresses are marked as read only, as stored to only, and as both.
-use Rattle.std.specs.Prelude.{ℕ, zero, suc, ◌+◌, Bool, ◌&&◌, cond, not, List, eqb, length}
+use Rattle.std.specs.Prelude.{ℕ, zero, suc, ◌+◌, Bool, ◌&&◌, cond, not, List, eqb, length, Result, Ok, Err}
 use Rattle.marks.specs.Maps.{is_marked}
+use Rattle.refusals.specs.declared.Refusal.{Refusal}
+use Rattle.refusals.specs.declared.Refusal.TheVariants.{Map}
 use Rattle.marks.specs.declared.Counted.{Counted}
 
 -- How many numbers below n pass a test.
@@ -26,18 +28,14 @@ marked_so so reads writes k = so (is_marked reads k) (is_marked writes k)
 abbrev pub addresses : (Bool → Bool → Bool) → List ℕ → List ℕ → ℕ
 addresses so reads writes = how_many 65536 (marked_so so reads writes)
 
--- The three numbers, and those of a count that is refused.
+-- The three numbers.
 abbrev pub three_counts : List ℕ → List ℕ → Counted
 three_counts reads writes = record {
-  refusal = 0;
   read_only = addresses read_only reads writes;
   stored_only = addresses stored_only reads writes;
   both = addresses read_and_stored reads writes;
 }
 
-abbrev pub no_counts : Counted
-no_counts = record { refusal = 2; read_only = 0; stored_only = 0; both = 0 }
-
--- Refusal 2 exactly if either map is not 8,192 bytes; the three numbers are then 0.
-abbrev pub counts_of : List ℕ → List ℕ → Counted
-counts_of reads writes = cond (eqb (length reads) 8192 && eqb (length writes) 8192) (three_counts reads writes) no_counts
+-- Refused exactly if either map is not 8,192 bytes.
+abbrev pub counts_of : List ℕ → List ℕ → Result Counted Refusal
+counts_of reads writes = cond (eqb (length reads) 8192 && eqb (length writes) 8192) (Ok (three_counts reads writes)) (Err Map)

@@ -1,12 +1,11 @@
 -- What the three numbers of a count add up to: document 01's count of each map. Below the theorems stand their proofs.
 -- Assumes nothing.
-use Rattle.std.specs.Prelude.{ℕ, suc, ◌+◌, ◌*◌, ◌/◌, ◌%◌, ◌^◌, ◌<◌, ◌≤◌, ◌≡◌, refl, Bool, true, false, cond, ◌&&◌, List, [], ◌∷◌, eqb, length}
-use Rattle.std.proofs.Common.{sym, ◌∙◌, arith, eq-eqb}
+use Rattle.std.specs.Prelude.{ℕ, ◌+◌, ◌≤◌, ◌≡◌, refl, Bool, true, false, cond, List, [], ◌∷◌}
+use Rattle.std.proofs.Common.{arith}
 use Rattle.std.specs.Int.Count.{ones}
-use Rattle.laws.specs.Bytes.{Bytes}
 use Rattle.marks.specs.Maps.{is_marked}
-use Rattle.marks.specs.Counts.{how_many, read_only, stored_only, read_and_stored, addresses, three_counts, no_counts, counts_of}
-use Rattle.marks.specs.HowMany.{same_tests, apart, in_parts, at_most, ones_are}
+use Rattle.marks.specs.Counts.{how_many, read_only, stored_only, read_and_stored, addresses, three_counts}
+use Rattle.marks.specs.HowMany.{in_parts, at_most}
 use Rattle.marks.specs.declared.Counted.{Counted}
 
 -- Document 01's count of the marks of one map: the ones of its bytes, summed. No function counts so any more.
@@ -34,20 +33,16 @@ module _ (reads writes : List ℕ) where
       go false true = refl
       go false false = refl
 
--- So neither sum passes the number of addresses, whatever the maps hold, refused or not.
+-- So neither sum passes the number of addresses, whatever the maps hold.
 pub record Few (counted : Counted) : Type 0 where
   pub read : counted.read_only + counted.both ≤ 65536
   pub stored : counted.stored_only + counted.both ≤ 65536
 
-pub few : (reads writes : List ℕ) → Few (counts_of reads writes)
-few reads writes = go (eqb (length reads) 8192 && eqb (length writes) 8192)
-  where
-    go : (b : Bool) → Few (cond b (three_counts reads writes) no_counts)
-    go true = record {
-      read = omega (arith, read_in_parts reads writes, at_most 65536 (λ k. is_marked reads k));
-      stored = omega (arith, stored_in_parts reads writes, at_most 65536 (λ k. is_marked writes k));
-    }
-    go false = record { read = omega arith; stored = omega arith }
+pub few : (reads writes : List ℕ) → Few (three_counts reads writes)
+few reads writes = record {
+  read = omega (arith, read_in_parts reads writes, at_most 65536 (λ k. is_marked reads k));
+  stored = omega (arith, stored_in_parts reads writes, at_most 65536 (λ k. is_marked writes k));
+}
 
 -- Of two maps that are not refused, read only plus both is 01's count of the read map, stored only plus both that of the written map.
 pub record Sums (reads writes : List ℕ) (counted : Counted) : Type 0 where

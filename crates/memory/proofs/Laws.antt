@@ -4,6 +4,8 @@ use Rattle.std.proofs.Common.{◌≡◌, ℕ, sym, refl, ap, ◌∙◌, rules}
 use Rattle.memory.specs.World.{World, byte_at, seen, kept}
 use Rattle.memory.specs.Access.{Access, then, ask, put, Outcome, outcome, perform, Does}
 use Rattle.memory.specs.Access.Access.{done, read_at, store_at}
+use Rattle.memory.specs.Promises.{behind, SameLoans, Performs}
+use Rattle.memory.specs.declared.Bus.{Bus}
 
 pub perform_then : {R S : Type 0} (p : Access S) (k : S → Access R) (w : World)
     → perform (then p k) w ≡ perform (k (perform p w).result) (perform p w).left
@@ -51,7 +53,16 @@ pub by : {A R : Type 0} (p : A → Access R) {x y : A} {w : World} {o : Outcome 
 by p e f = rw (← e) f
 
 -- A function that is a chain of accesses is proved by `search accesses`: whatever the search wants, it finds by what it says.
-pub ruleset accesses = (rules, chain, ends, ends_at, read_then, put_then, read_at_lem, put_at)
+pub same_loans : (a : Bus) → SameLoans a a
+same_loans a = record { memory = refl; reads = refl; writes = refl }
+
+pub still_same : {a b c : Bus} → SameLoans a b → SameLoans b c → SameLoans a c
+still_same e f = record { memory = f.memory ∙ e.memory; reads = f.reads ∙ e.reads; writes = f.writes ∙ e.writes }
+
+pub performs : {R : Type 0} {p : Access R} {a b : Bus} {r : R} → Does p (behind a) (outcome r (behind b)) → SameLoans a b → Performs p a b r
+performs d s = record { does = d; same = s }
+
+pub ruleset accesses = (rules, performs, same_loans, still_same, chain, ends, ends_at, read_then, put_then, read_at_lem, put_at)
 
 -- Two outcomes that meet one contract coincide.
 pub does_once : {R : Type 0} {p : Access R} {w : World} {o q : Outcome World R} → Does p w o → Does p w q → o ≡ q

@@ -1,52 +1,55 @@
-// Reads and stores of the lent memory, and the marks that they leave in the two maps.
+// The bus: reads and stores of the lent memory, and the marks that they leave in the two maps.
 #![tactic(auto)]
 
-ghost use Rattle.laws.specs.Lent.{shared, lent};
 ghost use Rattle.memory.specs.Access.{ask, put};
-ghost use Rattle.memory.specs.Promises.{Ready, Performs};
+ghost use Rattle.memory.specs.Promises.{Performs};
 ghost use Rattle.memory.specs.Words.{read_word, write_word};
 
-// The byte at an address, which is marked as read unless it has been stored to before.
-pub fn read(memory: &[u8], reads: &mut [u8], writes: &[u8], at: u16) -> u8
-    requires { Ready memory.now reads.old writes.now }
-    ensures { Performs (ask at) (shared memory) (lent reads) (shared writes) result }
-{
-    marks::mark_unless(reads, writes, at);
-    let k = at as usize;
-    memory[k]
+use marks::Map;
+
+// A byte for each address.
+pub type Memory = [u8; 65536];
+
+// What a step works on: the memory, and the maps of what steps have read and stored there. All three are lent.
+#[derive(Drop)]
+pub struct Bus<'a> {
+    pub memory: &'a mut Memory,
+    pub reads: &'a mut Map,
+    pub writes: &'a mut Map,
 }
 
-// Stores a byte at an address.
-pub fn store(memory: &mut [u8], reads: &[u8], writes: &mut [u8], at: u16, byte: u8)
-    requires { Ready memory.old reads.now writes.old }
-    ensures { Performs (put at byte) (lent memory) (shared reads) (lent writes) tt }
-{
-    marks::mark(writes, at);
-    let k = at as usize;
-    memory[k] = byte;
-}
+impl<'a> Bus<'a> {
+    // The byte at an address, which is marked as read unless it has been stored to before.
+    pub fn read(&mut self, at: u16) -> u8
+        ensures { Performs (ask at) self.old self.new result }
+    {
+        marks::mark_unless(self.reads, self.writes, at);
+        self.memory[at as usize]
+    }
 
-// The word at an address, low byte first.
-pub fn read_u16(memory: &[u8], reads: &mut [u8], writes: &[u8], at: u16) -> u16
-    requires { Ready memory.now reads.old writes.now }
-    ensures { Performs (read_word at) (shared memory) (lent reads) (shared writes) result }
-{
-    let low = read(memory, reads, writes, at);
-    let high = read(memory, reads, writes, std::num::wrapping_add_u16(at, 1));
-    high as u16 * 256 + low as u16
-}
+    // Stores a byte at an address.
+    pub fn store(&mut self, at: u16, byte: u8)
+        ensures { Performs (put at byte) self.old self.new tt }
+    {
+        marks::mark(self.writes, at);
+        self.memory[at as usize] = byte;
+    }
 
-// Stores a word at an address, low byte first.
-pub fn write_u16(memory: &mut [u8], reads: &[u8], writes: &mut [u8], at: u16, word: u16)
-    requires { Ready memory.old reads.now writes.old }
-    ensures { Performs (write_word at word) (lent memory) (shared reads) (lent writes) tt }
-{
-    store(memory, reads, writes, at, (word % 256) as u8);
-    store(
-        memory,
-        reads,
-        writes,
-        std::num::wrapping_add_u16(at, 1),
-        (word / 256) as u8,
-    );
+    // The word at an address, low byte first.
+    pub fn read_u16(&mut self, at: u16) -> u16
+        ensures { Performs (read_word at) self.old self.new result }
+    {
+        let low = self.read(at);
+        let high = self.read(at.wrapping_add(1));
+        u16::from_le_bytes([low, high])
+    }
+
+    // Stores a word at an address, low byte first.
+    pub fn write_u16(&mut self, at: u16, word: u16)
+        ensures { Performs (write_word at word) self.old self.new tt }
+    {
+        let [low, high] = word.to_le_bytes();
+        self.store(at, low);
+        self.store(at.wrapping_add(1), high);
+    }
 }

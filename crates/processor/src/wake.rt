@@ -11,24 +11,14 @@ impl Processor {
     pub fn is_awake(self) -> bool
         ensures { result ≡ is_awake self.state }
     {
-        let state = self.state;
-        waking::is_awake(state)
+        self.state.is_awake()
     }
 
     // The record in another state.
     pub fn with_state(self, state: State) -> Processor
         ensures { result ≡ with_state state self }
     {
-        let psw = self.psw;
-        Processor {
-            a: self.a,
-            x: self.x,
-            y: self.y,
-            sp: self.sp,
-            pc: self.pc,
-            psw,
-            state,
-        }
+        Processor { state, ..self }
     }
 
     // The record awake.

@@ -1,5 +1,7 @@
 -- The register record as seven bytes, which hold no state, and as eight, which do.
-use Rattle.std.specs.Prelude.{ℕ, ◌/◌, ◌%◌, Bool, ◌&&◌, List, [], ◌∷◌, ◌++◌, eqb, length, get_or, take}
+use Rattle.std.specs.Prelude.{ℕ, ◌/◌, ◌%◌, Bool, ◌&&◌, cond, List, [], ◌∷◌, ◌++◌, Result, Ok, Err, eqb, length, get_or, take}
+use Rattle.refusals.specs.declared.Refusal.{Refusal}
+use Rattle.refusals.specs.declared.Refusal.TheVariants.{Form}
 use Rattle.waking.specs.States.{number_of, is_state, state_of}
 use Rattle.waking.specs.declared.State.TheVariants.{Awake}
 use Rattle.psw.specs.Status.{byte_of, flags_of}
@@ -33,6 +35,10 @@ is_whole bytes = eqb (length bytes) 8 && is_state (get_or bytes 7 0)
 -- the record of eight bytes
 unfoldable pub whole_of : List ℕ → Processor
 whole_of bytes = with_state (state_of (get_or bytes 7 0)) (registers_of (take 7 bytes))
+
+-- What is no whole record is refused as another form.
+abbrev pub whole_in : List ℕ → Result Processor Refusal
+whole_in bytes = cond (is_whole bytes) (Ok (whole_of bytes)) (Err Form)
 
 -- a number as four bytes, low first
 abbrev pub four_bytes : ℕ → List ℕ

@@ -1,7 +1,7 @@
 -- What comes back of bytes and of records that go into the other form: of eight bytes all, of seven all but the state.
 -- Assumes nothing.
 use Prim.Native.Nat.{ℕ, ◌/◌, ◌%◌}
-use Rattle.std.specs.Prelude.{◌≡◌, refl, Bool, true, false, ◌&&◌, List, eqb, length, take}
+use Rattle.std.specs.Prelude.{◌≡◌, refl, Bool, true, false, ◌&&◌, List, Ok, eqb, length, take}
 use Rattle.std.proofs.Math.Path.{sym, ap}
 use Rattle.std.proofs.Common.{◌∙◌, true≢false, arith, eqb-true}
 use Rattle.std.proofs.Math.ListN.{get_or}
@@ -13,7 +13,7 @@ use Rattle.waking.specs.Theorems.{named, number_and_back, state_and_back}
 use Rattle.psw.specs.Theorems.{byte_to_flags_and_back, flags_to_byte_and_back}
 use Rattle.processor.specs.Record.{with_state, woken, word_of}
 use Rattle.processor.specs.declared.Processor.{Processor}
-use Rattle.state.specs.Registers.{bytes_of, registers_of, whole_bytes_of, is_whole, whole_of}
+use Rattle.state.specs.Registers.{bytes_of, registers_of, whole_bytes_of, is_whole, whole_of, whole_in}
 
 -- The record of seven bytes is awake.
 pub seven_awake : (bytes : List ℕ) → is_awake (registers_of bytes).state ≡ true
@@ -49,6 +49,10 @@ record_to_whole_and_back cpu =
 pub bytes_whole : (cpu : Processor) → is_whole (whole_bytes_of cpu) ≡ true
 unfolding whole_bytes_of bytes_of
 bytes_whole cpu = named cpu.state
+
+-- in which it is found again,
+pub found_again : (cpu : Processor) → whole_in (whole_bytes_of cpu) ≡ Ok cpu
+found_again cpu = rw (bytes_whole cpu, record_to_whole_and_back cpu)
 
 module _ (bytes : List ℕ) where
   -- which has eight bytes, the last of them a state's number.

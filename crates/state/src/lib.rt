@@ -1,12 +1,14 @@
 // The register record as bytes: as seven, A X Y SP PC-low PC-high PSW, which hold no state, and as eight, with the number of the state
-// last. And a number as four bytes, as the programs take a budget.
+// last. And a number as four bytes, as the programs take a budget. The bytes are slices and no arrays: most callers lend a part of a
+// packet or of a state record, and a part is a slice.
 #![tactic(auto)]
 
 ghost use Rattle.std.specs.Prelude.{◌+◌, ◌*◌, ◌≡◌, length};
-ghost use Rattle.state.specs.Registers.{registers_of, bytes_of, is_whole, whole_of, whole_bytes_of, four_bytes};
+ghost use Rattle.state.specs.Registers.{registers_of, bytes_of, is_whole, whole_of, whole_in, whole_bytes_of, four_bytes};
 
 use processor::Processor;
 use psw::ProgramStatusWord;
+use refusals::Refusal;
 use waking::State;
 
 // The record that seven bytes hold: awake.
@@ -19,10 +21,18 @@ pub fn registers(bytes: &[u8]) -> Processor
         x: bytes[1],
         y: bytes[2],
         sp: bytes[3],
-        pc: processor::word(bytes[4], bytes[5]),
+        pc: u16::from_le_bytes([bytes[4], bytes[5]]),
         psw: ProgramStatusWord::from_byte(bytes[6]),
         state: State::Awake,
     }
+}
+
+// The record as seven bytes.
+fn bytes_of(cpu: Processor) -> [u8; 7]
+    ensures { result ≡ bytes_of cpu }
+{
+    let [low, high] = cpu.pc.to_le_bytes();
+    [cpu.a, cpu.x, cpu.y, cpu.sp, low, high, cpu.psw.to_byte()]
 }
 
 // Stores the record in seven bytes.
@@ -30,14 +40,7 @@ pub fn set_registers(bytes: &mut [u8], cpu: Processor)
     requires { length bytes.old ≡ 7 }
     ensures { bytes.new ≡ bytes_of cpu }
 {
-    let psw = cpu.psw;
-    bytes[0] = cpu.a;
-    bytes[1] = cpu.x;
-    bytes[2] = cpu.y;
-    bytes[3] = cpu.sp;
-    bytes[4] = (cpu.pc % 256) as u8;
-    bytes[5] = (cpu.pc / 256) as u8;
-    bytes[6] = psw.to_byte();
+    bytes.copy_from_slice(&bytes_of(cpu));
 }
 
 // Whether bytes are a whole record: eight of them, with a state's number last.
@@ -52,8 +55,17 @@ pub fn whole(bytes: &[u8]) -> Processor
     requires { length bytes.now ≡ 8 }
     ensures { result ≡ whole_of bytes.now }
 {
-    let cpu = registers(&bytes[0..7]);
-    cpu.with_state(waking::state_of(bytes[7]))
+    registers(&bytes[..7]).with_state(waking::state_of(bytes[7]))
+}
+
+// The record that bytes hold; what is no whole record is refused.
+pub fn whole_in(bytes: &[u8]) -> Result<Processor, Refusal>
+    ensures { result ≡ whole_in bytes.now }
+{
+    if !is_whole(bytes) {
+        return Err(Refusal::Form);
+    }
+    Ok(whole(bytes))
 }
 
 // Stores the record in eight bytes.
@@ -61,16 +73,15 @@ pub fn set_whole(bytes: &mut [u8], cpu: Processor)
     requires { length bytes.old ≡ 8 }
     ensures { bytes.new ≡ whole_bytes_of cpu }
 {
-    let state = cpu.state;
-    set_registers(&mut bytes[0..7], cpu);
-    bytes[7] = waking::number_of(state);
+    set_registers(&mut bytes[..7], cpu);
+    bytes[7] = u8::from(cpu.state);
 }
 
 // The number that four bytes hold, low first.
 pub fn number(b0: u8, b1: u8, b2: u8, b3: u8) -> u32
     ensures { result ≡ b0 + 256 * b1 + 65536 * b2 + 16777216 * b3 }
 {
-    b0 as u32 + 256 * b1 as u32 + 65536 * b2 as u32 + 16777216 * b3 as u32
+    u32::from_le_bytes([b0, b1, b2, b3])
 }
 
 // Stores a number in four bytes, low first.
@@ -78,8 +89,5 @@ pub fn set_number(bytes: &mut [u8], n: u32)
     requires { length bytes.old ≡ 4 }
     ensures { bytes.new ≡ four_bytes n }
 {
-    bytes[0] = (n % 256) as u8;
-    bytes[1] = (n / 256 % 256) as u8;
-    bytes[2] = (n / 65536 % 256) as u8;
-    bytes[3] = (n / 16777216) as u8;
+    bytes.copy_from_slice(&n.to_le_bytes());
 }

@@ -4,27 +4,25 @@
 ghost use Rattle.std.specs.Prelude.{◌≡◌};
 ghost use Rattle.waking.specs.States.{number_of, is_state, state_of, is_awake};
 
-#[derive(Clone, Copy)]
+#[derive(Clone, Copy, Debug, PartialEq, Eq)]
 pub enum State {
-    Awake,
+    Awake = 0,
     // by SLEEP
-    Slept,
+    Slept = 1,
     // by STOP
-    Stopped,
+    Stopped = 2,
 }
 
 // The number of a state, which is the stop of a run that ends in it.
-pub fn number_of(state: State) -> u8
-    ensures { result ≡ number_of state }
-{
-    match state {
-        State::Awake => 0,
-        State::Slept => 1,
-        State::Stopped => 2,
+impl From<State> for u8 {
+    ghost from_gives = { λ state number. number ≡ number_of state };
+
+    fn from(state: State) -> u8 {
+        state as u8
     }
 }
 
-// Whether a number names a state.
+// Whether a number names a state. There is no TryFrom: who tests a record's bytes wants no state yet, and who then asks for it cannot fail.
 pub fn is_state(number: u8) -> bool
     ensures { result ≡ is_state number }
 {
@@ -42,13 +40,11 @@ pub fn state_of(number: u8) -> State
     }
 }
 
-// Whether a record in this state takes steps.
-pub fn is_awake(state: State) -> bool
-    ensures { result ≡ is_awake state }
-{
-    match state {
-        State::Awake => true,
-        State::Slept => false,
-        State::Stopped => false,
+impl State {
+    // Whether a record in this state takes steps.
+    pub fn is_awake(self) -> bool
+        ensures { result ≡ is_awake self }
+    {
+        matches!(self, State::Awake)
     }
 }

@@ -5,4 +5,4 @@ use Rattle.marks.proofs.Laws.{unless}
 use Rattle.marks.proofs.mark_unless.Goals as goal
 
 pub returns : goal.returns
-returns c = search (rules, unless, c.type_inv.other)
+returns c = search (rules, unless)

@@ -8,4 +8,4 @@ use Rattle.modes.proofs.addresses.pointer.Goals as goal
 
 pub returns : goal.returns
 unfolding pointed
-returns c = search (accesses, same)
+returns c = rw c.word.ensures (search (accesses, same))

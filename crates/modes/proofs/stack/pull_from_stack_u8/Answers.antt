@@ -6,9 +6,6 @@ use Rattle.memory.proofs.Laws.{accesses}
 use Rattle.modes.proofs.Same.{same}
 use Rattle.modes.proofs.stack.pull_from_stack_u8.Goals as goal
 
-in_stack : (sp place : ℕ) → sp ≡ place → 0x100 + sp ≡ 0x100 + place
-in_stack sp place e = rw e
-
 pub returns : goal.returns
 unfolding pull
-returns c = search (accesses, same, in_stack)
+returns c = search (accesses, same)
