@@ -4,11 +4,9 @@
 ghost use Rattle.std.specs.Prelude.{◌≡◌, ◌≤◌, slice_index};
 ghost use Rattle.cycles.specs.Cost.{cycles, flag_of, branch_byte, is_passed_by, cost_of};
 
+use memory::Memory;
 use processor::Processor;
 use psw::ProgramStatusWord;
-
-// The processor's memory.
-type Memory = [u8; 65536];
 
 // The cycles of each opcode, a line for each high digit. A branch has those of a taken one; SLEEP and STOP, which end all, have none.
 static CYCLES: [u8; 256] = [

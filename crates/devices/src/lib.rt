@@ -6,10 +6,8 @@ mod timer;
 ghost use Rattle.std.specs.Prelude.{◌≡◌, ◌+◌, ◌<◌, ◌≤◌};
 ghost use Rattle.devices.specs.Devices.{bit, timer_in, started, after_reads, controlled, aimed_all, after_stores, passed};
 
+use memory::Memory;
 pub use timer::Timer;
-
-// The processor's memory.
-type Memory = [u8; 65536];
 
 // The order of the fields is the cheapest that was found for the step of a song (docs/SPEED.md).
 #[derive(Clone, Copy)]

@@ -5,9 +5,7 @@ ghost use Rattle.std.specs.Prelude.{◌≡◌, ◌≤◌, length};
 ghost use Rattle.samples.specs.Fetched.{word_at, fetched, blocks, sample, voices};
 
 use marks::Map;
-
-// The processor's memory.
-type Memory = [u8; 65536];
+use memory::Memory;
 
 // The word at an address, low byte first.
 fn word_at(memory: &Memory, at: u16) -> u16
