@@ -15,6 +15,7 @@ fn word_at(memory: &Memory, at: u16) -> u16
 }
 
 // Marks so many addresses from one on, but those that the processor has stored to.
+// (Memory and maps are handed on one by one: a struct of borrows would have to promise of each that it is still the one borrowed.)
 fn fetch(n: u16, at: u16, writes: &Map, map: &mut Map)
     ensures { map.new ≡ fetched n at writes.now map.old }
 {
