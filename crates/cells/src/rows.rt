@@ -1,8 +1,12 @@
 // The way in and the way out: memory and maps laid out as cells, and cells put back into memory and maps.
-ghost use Rattle.std.specs.Prelude.{◌<◌, ◌≤◌, ◌≡◌, cond, length};
+ghost use Rattle.std.specs.Prelude.{◌<◌, ◌≤◌, ◌≡◌, cond};
 ghost use Rattle.laws.specs.Lent.{shared, lent};
-ghost use Rattle.memory.specs.Promises.{before, after, Ready};
-ghost use Rattle.cells.specs.Cells.{byte_of, mark_of, eight_of, values, world_of, Laid};
+ghost use Rattle.memory.specs.Promises.{before, after};
+ghost use Rattle.cells.specs.Cells.{byte_of, mark_of, eight_of, values, world_of};
+
+use crate::Cells;
+use marks::Map;
+use memory::Memory;
 
 // A mark as the bit of a cell.
 fn bit_if(marked: bool, value: u16) -> u16
@@ -12,37 +16,28 @@ fn bit_if(marked: bool, value: u16) -> u16
 }
 
 // A cell for each address.
-pub fn lay_out(cells: &mut [u16], memory: &[u8], reads: &[u8], writes: &[u8])
-    requires laid { Laid cells.old }
-    requires ready { Ready memory.now reads.now writes.now }
+pub fn lay_out(cells: &mut Cells, memory: &Memory, reads: &Map, writes: &Map)
     ensures { world_of cells.new ≡ before (shared memory) (shared reads) (shared writes) }
 {
-    let mut k: usize = 0;
-    while k < 65536 {
+    for k in 0..65536 {
         let at = k as u16;
         let read = bit_if(marks::is_marked(reads, at), 256);
         let stored = bit_if(marks::is_marked(writes, at), 512);
         cells[k] = memory[k] as u16 + read + stored;
-        k += 1;
     }
 }
 
 // The low byte of each cell.
-fn put_bytes(cells: &[u16], memory: &mut [u8])
-    requires laid { Laid cells.now }
-    requires memory_len { length memory.old ≡ 65536 }
+fn put_bytes(cells: &Cells, memory: &mut Memory)
     ensures { memory.new ≡ values 65536 0 (byte_of cells.now) }
 {
-    let mut k: usize = 0;
-    while k < 65536 {
+    for k in 0..65536 {
         memory[k] = (cells[k] % 256) as u8;
-        k += 1;
     }
 }
 
 // One bit of a cell.
-fn mark_of(cells: &[u16], bit: u16, k: usize) -> u8
-    requires laid { Laid cells.now }
+fn mark_of(cells: &Cells, bit: u16, k: usize) -> u8
     requires bit_bound { (bit < 16) × (k < 65536) }
     ensures { (result ≡ mark_of bit cells.now k) × (result ≤ 1) }
 {
@@ -50,8 +45,7 @@ fn mark_of(cells: &[u16], bit: u16, k: usize) -> u8
 }
 
 // The marks of eight addresses.
-fn eight(cells: &[u16], bit: u16, i: usize) -> u8
-    requires laid { Laid cells.now }
+fn eight(cells: &Cells, bit: u16, i: usize) -> u8
     requires bit_bound { (bit < 16) × (i < 8192) }
     ensures { result ≡ eight_of bit cells.now i }
 {
@@ -68,22 +62,17 @@ fn eight(cells: &[u16], bit: u16, i: usize) -> u8
 }
 
 // The marks that one bit of the cells holds.
-fn put_marks(cells: &[u16], bit: u16, map: &mut [u8])
-    requires laid { Laid cells.now }
-    requires bit_bound { (bit < 16) × (length map.old ≡ 8192) }
+fn put_marks(cells: &Cells, bit: u16, map: &mut Map)
+    requires bit_bound { bit < 16 }
     ensures { map.new ≡ values 8192 0 (eight_of bit cells.now) }
 {
-    let mut i: usize = 0;
-    while i < 8192 {
+    for i in 0..8192 {
         map[i] = eight(cells, bit, i);
-        i += 1;
     }
 }
 
 // Memory and maps of the cells.
-pub fn put_back(cells: &[u16], memory: &mut [u8], reads: &mut [u8], writes: &mut [u8])
-    requires laid { Laid cells.now }
-    requires ready { Ready memory.old reads.old writes.old }
+pub fn put_back(cells: &Cells, memory: &mut Memory, reads: &mut Map, writes: &mut Map)
     ensures { after (lent memory) (lent reads) (lent writes) ≡ world_of cells.now }
 {
     put_bytes(cells, memory);

@@ -11,11 +11,11 @@ use Rattle.engine.specs.Entry.{refusal_of}
 
 -- ---- the edition that a number names
 
-named_ok : (b : Bool) (x e : Edition) → ◌≡◌ {A = Result Edition Refusal} (Ok e) (cond b (Ok x) (Err reason.Edition)) → (b ≡ true) × (e ≡ x)
+pub named_ok : (b : Bool) (x e : Edition) → ◌≡◌ {A = Result Edition Refusal} (Ok e) (cond b (Ok x) (Err reason.Edition)) → (b ≡ true) × (e ≡ x)
 named_ok true x e h = (refl, grind (arith, h))
 named_ok false x e h = absurd (grind (arith, h))
 
-named_err : (b : Bool) (x : Edition) (e : Refusal) → ◌≡◌ {A = Result Edition Refusal} (Err e) (cond b (Ok x) (Err reason.Edition))
+pub named_err : (b : Bool) (x : Edition) (e : Refusal) → ◌≡◌ {A = Result Edition Refusal} (Err e) (cond b (Ok x) (Err reason.Edition))
     → (b ≡ false) × (e ≡ reason.Edition)
 named_err true x e h = absurd (grind (arith, h))
 named_err false x e h = (refl, grind (arith, h))

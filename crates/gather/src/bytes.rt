@@ -1,13 +1,8 @@
-// Modes that read nothing, or one byte in every row.
+// Nothing, or a byte alone.
 ghost use Rattle.std.specs.Prelude.{◌≡◌};
-ghost use Rattle.memory.specs.Promises.{Performs};
-ghost use Rattle.instructions.specs.Rows.Mode.{immediate, direct, direct_x, absolute, pulled};
 ghost use Rattle.instructions.specs.Gather.{operands};
-ghost use Rattle.gather.specs.Columns.{plainly};
 
-use crate::places::load;
 use instructions::Operands;
-use memory::Bus;
 use processor::{Processor, Produced};
 
 // Nothing is read.
@@ -23,32 +18,8 @@ pub fn implied(cpu: Processor) -> Operands
     }
 }
 
-// d: the byte there.
-pub fn direct(cpu: Processor, bus: &mut Bus) -> Operands
-    ensures { Performs (plainly direct cpu) bus.old bus.new result }
-{
-    let found = modes::d(cpu, bus);
-    load(found, bus)
-}
-
-// d+X: the byte there.
-pub fn direct_x(cpu: Processor, bus: &mut Bus) -> Operands
-    ensures { Performs (plainly direct_x cpu) bus.old bus.new result }
-{
-    let found = modes::dx(cpu, bus);
-    load(found, bus)
-}
-
-// !a: the byte there.
-pub fn absolute(cpu: Processor, bus: &mut Bus) -> Operands
-    ensures { Performs (plainly absolute cpu) bus.old bus.new result }
-{
-    let found = modes::abs(cpu, bus);
-    load(found, bus)
-}
-
-// A byte alone.
-fn byte_only(read: Produced) -> Operands
+// A byte alone: an operand, or one from the stack.
+pub fn byte_only(read: Produced) -> Operands
     ensures { result ≡ operands read.cpu 0 0 read.byte 0 }
 {
     Operands {
@@ -58,18 +29,4 @@ fn byte_only(read: Produced) -> Operands
         low: read.byte,
         high: 0,
     }
-}
-
-// An operand byte.
-pub fn immediate(cpu: Processor, bus: &mut Bus) -> Operands
-    ensures { Performs (plainly immediate cpu) bus.old bus.new result }
-{
-    byte_only(modes::fetch_u8(cpu, bus))
-}
-
-// A byte from the stack.
-pub fn pulled(cpu: Processor, bus: &mut Bus) -> Operands
-    ensures { Performs (plainly pulled cpu) bus.old bus.new result }
-{
-    byte_only(modes::pull_from_stack_u8(cpu, bus))
 }

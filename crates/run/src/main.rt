@@ -9,9 +9,7 @@ fn main(rt: HostRuntime) -> io::Result<()> {
     let mut input = [0u8; 65549];
     let n = output::read_full(&mut rt.stdin(), &mut input)?;
     let report = runner::session(&mut input[..n]);
-    let opening = report.opening;
-    let closing = report.closing;
     let mut out = rt.stdout();
-    output::print(&mut out, opening)?;
-    output::print(&mut out, closing)
+    output::print(&mut out, report.opening)?;
+    output::print(&mut out, report.closing)
 }

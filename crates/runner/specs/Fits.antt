@@ -11,6 +11,7 @@ use Rattle.laws.specs.Bytes.{Bytes}
 use Rattle.text.specs.Line.{shown}
 use Rattle.text.specs.Quoted.{text}
 use Rattle.text.proofs.Laws.{length_decimal, shown_adds}
+use Rattle.waking.specs.States.{number_of}
 use Rattle.psw.specs.Theorems.{text_length}
 use Rattle.psw.specs.declared.ProgramStatusWord.{ProgramStatusWord}
 use Rattle.processor.specs.Text.{registers_text}
@@ -31,10 +32,10 @@ pub record Fits (s : Session) : Type 0 where
 
 -- ---- the two lines: at most 53 bytes and at most 73
 
-length_opening : (r : Ran) → r.stop ≤ 2 → r.steps < 4294967296 → length (opening_of r) ≤ 53
+length_opening : (r : Ran) → number_of r.cpu.state ≤ 2 → r.steps < 4294967296 → length (opening_of r) ≤ 53
 unfolding opening_of registers_text
 length_opening r h g =
-    simp length-append (omega (arith, length_decimal 0 r.stop (omega arith), length_decimal 9 r.steps (omega arith)))
+    simp length-append (omega (arith, length_decimal 0 (number_of r.cpu.state) (omega arith), length_decimal 9 r.steps (omega arith)))
 
 length_closing_text : (psw : ProgramStatusWord) {read written both : ℕ} → read < 100000 → written < 100000 → both < 100000
     → length (closing_text psw read written both) ≤ 73
@@ -42,7 +43,6 @@ length_closing_text psw {read} {written} {both} r w b =
     simp (length-append, text_length) (omega (arith, length_decimal 4 read (omega arith), length_decimal 4 written (omega arith), length_decimal 4 both (omega arith)))
 
 length_closing : (o : Outcome World Ran) → length (closing_of o) ≤ 73
-unfolding closing_of
 length_closing o =
     let most = few o.left.reads o.left.writes in
     length_closing_text o.result.cpu.psw (omega (arith, most.read)) (omega (arith, most.stored)) (omega (arith, most.read))

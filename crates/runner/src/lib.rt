@@ -3,16 +3,21 @@
 
 mod lines;
 
-ghost use Rattle.std.specs.Prelude.{◌≡◌, true, [], length, get_or, take};
+ghost use Rattle.std.specs.Prelude.{◌≡◌, [], take};
 ghost use Rattle.laws.specs.Lent.{lent};
 ghost use Rattle.text.specs.Line.{blank};
-ghost use Rattle.editions.specs.Editions.{is_edition, edition_of};
-ghost use Rattle.engine.specs.Provenance.{played};
-ghost use Rattle.runner.specs.Session.{budget_of, run_on, reported, session_of};
+ghost use Rattle.marks.specs.Counts.{three_counts};
+ghost use Rattle.runner.specs.Session.{budget_of, from_clear, run_in, reported, session_of};
 ghost use Rattle.runner.specs.Told.{Tells};
 
+use editions::Edition;
+use marks::{Counted, Map};
+use memory::{Bus, Memory};
 use processor::Processor;
 use text::Line;
+
+// What stands in an input: an edition's number, a budget and a state record.
+type Input = [u8; 65548];
 
 // What the program prints: two lines of text, each of which may hold several that end in a newline.
 #[derive(Drop)]
@@ -22,42 +27,48 @@ pub struct Report {
 }
 
 // The budget, which stands behind the edition.
-fn budget(input: &[u8]) -> u32
-    requires { length input.now ≡ 65548 }
+fn budget(input: &Input) -> u32
     ensures { result ≡ budget_of input.now }
 {
-    state::number(input[1], input[2], input[3], input[4])
+    u32::from_le_bytes([input[1], input[2], input[3], input[4]])
+}
+
+// How many addresses two maps mark: their lengths are right, so that no count is refused.
+fn count(reads: &Map, writes: &Map) -> Counted
+    ensures { result ≡ three_counts reads.now writes.now }
+{
+    marks::counts(reads, writes).unwrap()
 }
 
 // Runs in an edition from clear maps, and reports.
-fn run_on(cpu: Processor, edition: u8, memory: &mut [u8], budget: u32) -> Report
-    requires { is_edition edition ≡ true }
-    ensures { Tells (λ image. reported [] (played (edition_of edition) budget cpu image)) (lent memory) result }
+fn run_on(cpu: Processor, edition: Edition, memory: &mut Memory, budget: u32) -> Report
+    ensures { Tells (λ image. reported [] (from_clear edition budget cpu image)) (lent memory) result }
 {
     let mut reads = [0u8; 8192];
     let mut writes = [0u8; 8192];
-    let ran = engine::run(cpu, edition, memory, &mut reads, &mut writes, budget);
-    let next = ran.cpu;
-    let counted = marks::counts(&reads, &writes);
-    let both = counted.both;
-    let read = counted.read_only + both;
-    let written = counted.stored_only + both;
+    let mut bus = Bus {
+        memory,
+        reads: &mut reads,
+        writes: &mut writes,
+    };
+    let ran = engine::run_on(cpu, edition, &mut bus, budget);
+    let counted = count(&reads, &writes);
+    let read = counted.read_only + counted.both;
+    let written = counted.stored_only + counted.both;
     Report {
-        opening: lines::opening(ran),
-        closing: lines::closing(next, read, written, both),
+        opening: lines::opening(&ran),
+        closing: lines::closing(ran.cpu.psw, read, written, counted.both),
     }
 }
 
-// Runs an input of the right length, with an edition that there is.
-fn accepted(input: &mut [u8]) -> Report
-    requires input_len { length input.old ≡ 65548 }
-    requires input_value { is_edition (get_or input.old 0 0) ≡ true }
-    ensures { Tells (λ bytes. reported (take 12 bytes) (run_on bytes)) (lent input) result }
+// Runs an input in an edition.
+fn accepted(input: &mut Input, edition: Edition) -> Report
+    ensures { Tells (λ bytes. reported (take 12 bytes) (run_in edition bytes)) (lent input) result }
 {
-    let edition = input[0];
     let budget = budget(input);
     let cpu = state::registers(&input[5..12]);
-    run_on(cpu, edition, &mut input[12..], budget)
+    let (_, memory) = input.split_last_chunk_mut::<65536>().unwrap();
+    run_on(cpu, edition, memory, budget)
 }
 
 // A report of one line.
@@ -75,11 +86,11 @@ fn alone(line: Line) -> Report
 pub fn session(input: &mut [u8]) -> Report
     ensures { Tells session_of (lent input) result }
 {
-    if input.len() != 65548 {
+    let Some(input) = input.as_mut_array::<65548>() else {
         return alone(Line::new().text(b"refused 6\n"));
-    }
-    if !editions::is_edition(input[0]) {
+    };
+    let Ok(edition) = Edition::try_from(input[0]) else {
         return alone(Line::new().text(b"refused 9\n"));
-    }
-    accepted(input)
+    };
+    accepted(input, edition)
 }

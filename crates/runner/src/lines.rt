@@ -4,33 +4,40 @@ ghost use Rattle.text.specs.Line.{blank, adds};
 ghost use Rattle.runner.specs.Session.{opening_of, marks_text, closing_text};
 
 use engine::Ran;
-use processor::Processor;
+use psw::ProgramStatusWord;
 use text::Line;
 
 // The stop, the steps and the registers.
-pub fn opening(ran: Ran) -> Line
-    ensures { result ≡ adds blank (opening_of ran) }
+pub fn opening(ran: &Ran) -> Line
+    ensures { result ≡ adds blank (opening_of ran.now) }
 {
-    let cpu = ran.cpu;
-    let stop = Line::new().text(b"stop ").decimal(ran.stop as u32);
-    let steps = stop.text(b"\nsteps ").decimal(ran.steps);
-    cpu.registers_on_line(steps.text(b"\n")).text(b"\n")
+    let stop = u8::from(ran.cpu.state);
+    let line = Line::new()
+        .text(b"stop ")
+        .decimal(stop as u32)
+        .text(b"\nsteps ")
+        .decimal(ran.steps)
+        .text(b"\n");
+    ran.cpu.registers_on_line(line).text(b"\n")
 }
 
 // How many addresses were read, how many written, and how many of these are both.
 fn marks_on_line(line: Line, read: u32, written: u32, both: u32) -> Line
     ensures { result ≡ adds line (marks_text read written both) }
 {
-    let reads = line.text(b"read ").decimal(read);
-    let writes = reads.text(b" written ").decimal(written);
-    writes.text(b" both ").decimal(both).text(b"\n")
+    line.text(b"read ")
+        .decimal(read)
+        .text(b" written ")
+        .decimal(written)
+        .text(b" both ")
+        .decimal(both)
+        .text(b"\n")
 }
 
 // The flags and the marks.
-pub fn closing(cpu: Processor, read: u32, written: u32, both: u32) -> Line
-    ensures { result ≡ adds blank (closing_text cpu.psw read written both) }
+pub fn closing(psw: ProgramStatusWord, read: u32, written: u32, both: u32) -> Line
+    ensures { result ≡ adds blank (closing_text psw read written both) }
 {
-    let psw = cpu.psw;
-    let flags = psw.on_line(Line::new()).text(b"\n");
-    marks_on_line(flags, read, written, both)
+    let line = psw.on_line(Line::new()).text(b"\n");
+    marks_on_line(line, read, written, both)
 }

@@ -9,6 +9,3 @@ use Rattle.cells.proofs.rows.lay_out.Given as goal
 
 abbrev pub invariant-loop-k : goal.invariant-loop-k
 invariant-loop-k l = SoFar 65536 (cell_of l.memory l.reads l.writes) l.cells l.k
-
-abbrev pub decreases-loop-k : goal.decreases-loop-k
-decreases-loop-k l = 65536 - l.k

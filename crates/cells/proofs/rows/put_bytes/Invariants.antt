@@ -8,6 +8,3 @@ use Rattle.cells.proofs.rows.put_bytes.Given as goal
 
 abbrev pub invariant-loop-k : goal.invariant-loop-k
 invariant-loop-k l = SoFar 65536 (byte_of l.cells) l.memory l.k
-
-abbrev pub decreases-loop-k : goal.decreases-loop-k
-decreases-loop-k l = 65536 - l.k

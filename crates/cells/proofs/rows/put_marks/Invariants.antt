@@ -8,6 +8,3 @@ use Rattle.cells.proofs.rows.put_marks.Given as goal
 
 abbrev pub invariant-loop-i : goal.invariant-loop-i
 invariant-loop-i l = SoFar 8192 (eight_of l.bit l.cells) l.map l.i
-
-abbrev pub decreases-loop-i : goal.decreases-loop-i
-decreases-loop-i l = 8192 - l.i

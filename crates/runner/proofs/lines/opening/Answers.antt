@@ -7,12 +7,13 @@ use Rattle.runner.proofs.lines.opening.Goals as goal
 pub returns : goal.returns
 unfolding opening_of
 returns c = rw (
-  c.text-4.ensures,
-  c.registers_on_line.ensures,
   c.text-3.ensures,
-  c.decimal-steps.ensures,
+  c.registers_on_line.ensures,
+  c.text-line.ensures,
+  c.decimal-2.ensures,
   c.text-2.ensures,
-  c.decimal-stop.ensures,
+  c.decimal.ensures,
+  c.from-stop.ensures,
   c.text.ensures,
   c.new.ensures,
 )

@@ -1,8 +1,0 @@
--- The mode finds the address, and `place` reads there or not.
--- Assumes nothing.
-use borrow.Author.Rules.{rules}
-use Rattle.memory.proofs.Laws.{accesses}
-use Rattle.gather.proofs.places.dy.Goals as goal
-
-pub returns : goal.returns
-returns c = search accesses
