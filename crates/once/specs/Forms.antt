@@ -26,8 +26,8 @@ use Rattle.once.specs.Law.{nothing}
 pub answers : {A : Type 0} {x y z : A} → x ≡ z → y ≡ z → (x ≡ y) × (nothing ≡ nothing)
 answers p q = (p ∙ sym q, refl)
 
--- the bytes of a slice that is answered
-pub shows : {s t z : List ℕ} → s ≡ z → t ≡ z → s ≡ t
+-- what a slice that is answered holds
+pub shows : {T : Type 0} {s t z : List T} → s ≡ z → t ≡ z → s ≡ t
 shows p q = p ∙ sym q
 
 abbrev None : Type 0

@@ -67,6 +67,6 @@ fifteenth e = e.1.1.1.1.1.1.1.1.1.1.1.1.1.1.0.now
 
 -- ---- a function that answers a part of a slice
 
--- Two outcomes that meet the contract for the same arguments show the same bytes.
-pub record Shows {X K : Type 0} {A E : K → Type 0} (post : (κ : K) → A κ → Bor (List ℕ) → E κ → Type 0) : Type 0 where
-  pub same : {κ : K} {a : A κ} {x y : Bor (List ℕ)} {e f : E κ} → post κ a x e → post κ a y f → x.now ≡ y.now
+-- Two outcomes that meet the contract for the same arguments show the same.
+pub record Shows {T K : Type 0} {A E : K → Type 0} (post : (κ : K) → A κ → Bor (List T) → E κ → Type 0) : Type 0 where
+  pub same : {κ : K} {a : A κ} {x y : Bor (List T)} {e f : E κ} → post κ a x e → post κ a y f → x.now ≡ y.now
