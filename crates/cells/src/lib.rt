@@ -11,7 +11,7 @@ ghost use Rattle.cells.specs.Cells.{Performs};
 
 pub use rows::{lay_out, put_back};
 
-// A cell for each address.
+// A row: a cell for each address.
 pub type Cells = [u16; 65536];
 
 // The byte at an address, which is marked as read unless it has been stored to before.
