@@ -53,18 +53,30 @@ accepted {file} e = go (ℕ_discrete (length file) 66048) (starts_with nat_eq fi
 pub gives_record : (file : List ℕ) → refusal_of file ≡ Ok tt → read_of file ≡ Ok (record_in file)
 gives_record file z = rw z
 
--- which is awake,
-pub gives_awake : (file : List ℕ) (cpu : Processor) → read_of file ≡ Ok cpu → is_awake cpu.state ≡ true
-unfolding record_in
-gives_awake file cpu e = go (refusal_of file) refl
-  where
-    go : (r : Result Unit Refusal) → refusal_of file ≡ r → is_awake cpu.state ≡ true
-    go (Ok x) z = let same = rw z at e in let own : record_in file ≡ cpu = cc in rw (← own) refl
-    go (Err refusal) z = let other = rw z at e in cc
-
 -- and the memory.
 pub gives_part : (file : List ℕ) → refusal_of file ≡ Ok tt → memory_of file ≡ memory_in file
 gives_part file z = rw z
+
+-- A record that reading gives is that of an accepted file, and a refusal is the file's own.
+module _ (file : List ℕ) where
+  pub given : {cpu : Processor} → read_of file ≡ Ok cpu → (refusal_of file ≡ Ok tt) × (record_in file ≡ cpu)
+  given {cpu} e = go (refusal_of file) refl
+    where
+      go : (r : Result Unit Refusal) → refusal_of file ≡ r → (refusal_of file ≡ Ok tt) × (record_in file ≡ cpu)
+      go (Ok x) z = let same = rw z at e in (z, cc)
+      go (Err refusal) z = let other = rw z at e in cc
+
+  pub not_given : {refusal : Refusal} → read_of file ≡ Err refusal → refusal_of file ≡ Err refusal
+  not_given {refusal} e = go (refusal_of file) refl
+    where
+      go : (r : Result Unit Refusal) → refusal_of file ≡ r → refusal_of file ≡ Err refusal
+      go (Ok x) z = let other = rw z at e in cc
+      go (Err d) z = let same = rw z at e in cc
+
+-- Such a record is awake.
+pub gives_awake : (file : List ℕ) (cpu : Processor) → read_of file ≡ Ok cpu → is_awake cpu.state ≡ true
+unfolding record_in
+gives_awake file cpu e = let own = (given file e).1 in rw (← own) refl
 
 -- The memory of an accepted file is a whole one.
 pub memory_size : {file : List ℕ} → Accepted file → length (memory_in file) ≡ 65536
