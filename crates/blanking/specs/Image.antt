@@ -2,16 +2,17 @@
 -- Assumes nothing.
 use Prim.Native.Nat.{ℕ, zero, suc, ◌+◌, ◌<◌}
 use Rattle.std.proofs.Math.Path.{◌≡◌, refl, ap}
-use Rattle.std.proofs.Common.{sym, ◌∙◌, zero-add, suc-add, add-suc, ext_get_or, eq-eqb, ne_eqb}
-use Rattle.std.specs.Prelude.{Bool, true, false, cond, length, get_or}
+use Rattle.std.proofs.Common.{sym, ◌∙◌, zero-add, suc-add, add-suc, ext_get_or, ne_eqb}
+use Rattle.std.specs.Prelude.{Bool, true, false, cond, length, get_or, Option, None, Some, Result, Err}
 use mathlib.Core.List.{List, [], ◌∷◌}
 use Rattle.std.proofs.Math.Nat.{add-zero}
 use Rattle.std.proofs.Math.Decide.{ℕ_discrete}
 use native.Mathlib.Omega.{arith}
 use Rattle.laws.specs.Filled.{Filled, filled}
 use Rattle.marks.specs.Maps.{is_marked}
-use Rattle.blanking.specs.Calls.{blanked_from, blanked_image, refusal_of, refused, accepted, blank_of}
-use Rattle.blanking.specs.declared.Blanked.{Blanked}
+use Rattle.refusals.specs.declared.Refusal.{Refusal}
+use Rattle.refusals.specs.declared.Refusal.TheVariants.{Memory}
+use Rattle.blanking.specs.Calls.{blanked_from, blanked_image, refusal_of, accepted, outcome, blank_of}
 
 module _ (map : List ℕ) (byte : ℕ) where
   length_from : (at : ℕ) (image : List ℕ) → length (blanked_from map byte at image) ≡ length image
@@ -58,21 +59,22 @@ module _ (map : List ℕ) (byte : ℕ) where
         go k h false e = refl
 
     -- What holds of each outcome holds of the one that there is; which one it is goes by the lengths.
-    pub either : (P : Filled Blanked → Type 0) → (refusal_of map image ≡ 0 → P (filled (accepted map) (blanked_image map byte image)))
-        → ((refusal_of map image ≡ 0 → ⊥) → P (filled (refused (refusal_of map image)) image)) → P (blank_of map byte image)
-    either P taken not_taken =
-        elim (ℕ_discrete (refusal_of map image) 0) [
-          | yes z ↦ rw (eq-eqb _ _ z) (taken z)
-          | no n ↦ rw (ne_eqb _ _ n) (not_taken n)
-        ]
+    pub either : (P : Filled (Result ℕ Refusal) → Type 0) → (refusal_of map image ≡ None → P (filled (accepted map) (blanked_image map byte image)))
+        → ((refusal : Refusal) → refusal_of map image ≡ Some refusal → P (filled (Err refusal) image)) → P (blank_of map byte image)
+    either P taken not_taken = go (refusal_of map image) taken not_taken
+      where
+        go : (r : Option Refusal) → (r ≡ None → P (filled (accepted map) (blanked_image map byte image)))
+            → ((refusal : Refusal) → r ≡ Some refusal → P (filled (Err refusal) image)) → P (outcome r map byte image)
+        go None taken not_taken = taken refl
+        go (Some refusal) taken not_taken = not_taken refusal refl
 
     -- An image that is not refused has 65,536 bytes.
-    pub right_size : refusal_of map image ≡ 0 → length image ≡ 65536
+    pub right_size : refusal_of map image ≡ None → length image ≡ 65536
     unfolding refusal_of
     right_size z = elim (ℕ_discrete (length image) 65536) [ yes e ↦ e | no n ↦ absurd (wrong n) ]
       where
         wrong : (length image ≡ 65536 → ⊥) → ⊥
-        wrong n = let one : ◌≡◌ {A = ℕ} 1 0 = rw (ne_eqb _ _ n) at z in omega arith
+        wrong n = let some : Some Memory ≡ None = rw (ne_eqb _ _ n) at z in cc
 
     pub same_refusal : (other : List ℕ) → length other ≡ length image → refusal_of map other ≡ refusal_of map image
     unfolding refusal_of
