@@ -1,8 +1,9 @@
 -- To add one text and then another is to add both joined.
 -- Assumes nothing.
 use borrow.Author.Rules.{rules}
-use Rattle.text.proofs.Laws.{written}
+use Rattle.text.specs.Line.{adds}
 use Rattle.text.proofs.Line.hex_word.Goals as goal
 
 pub returns : goal.returns
-returns c = search (rules, written)
+unfolding adds
+returns c = search rules
