@@ -11,14 +11,12 @@ use lib.ListN.{length, get_or, set, length-set}
 use lib.Seq.{get_or-set_same, get_or-set_other}
 use mir.Syntax.{w32}
 use mir.Val.{Fits}
-use borrow.Author.Tests.{eq-eqb, ne_eqb, not-true, not-false}
-use Rattle.laws.specs.Filled.{filled}
+use borrow.Author.Tests.{not-true, not-false}
 use Rattle.marks.specs.Maps.{is_marked}
 use Rattle.marks.specs.Counts.{how_many}
 use Rattle.marks.specs.HowMany.{at_most}
-use Rattle.blanking.specs.Calls.{refusal_of, refused, blank_of}
+use Rattle.blanking.specs.Calls.{unmarked, blanked_image}
 use Rattle.blanking.specs.Image.{only_blanked}
-use Rattle.blanking.specs.declared.Blanked.{Blanked}
 
 module _ (map : List ℕ) (byte : ℕ) (image : List ℕ) where
   -- What a memory has at each address once those below `at` are done.
@@ -29,19 +27,7 @@ module _ (map : List ℕ) (byte : ℕ) (image : List ℕ) where
     pub ahead : (k : ℕ) → at ≤ k → get_or memory k 0 ≡ get_or image k 0
     pub counted : blanked ≡ how_many at (λ k. not (is_marked map k))
 
-  -- ---- refused
-
-  pub wrong_memory : {r : Blanked} → (length image ≡ 65536 → ⊥) → r ≡ refused 1 → filled r image ≡ blank_of map byte image
-  unfolding refusal_of
-  wrong_memory n e = rw (e, ne_eqb _ _ n)
-
   module _ (size : length image ≡ 65536) where
-    pub wrong_map : {r : Blanked} → (length map ≡ 8192 → ⊥) → r ≡ refused 2 → filled r image ≡ blank_of map byte image
-    unfolding refusal_of
-    wrong_map n e = rw (e, eq-eqb _ _ size, ne_eqb _ _ n)
-
-    -- ---- the walk
-
     pub begin : SoFar image 0 0
     unfolding how_many
     begin = record {
@@ -91,11 +77,7 @@ module _ (map : List ℕ) (byte : ℕ) (image : List ℕ) where
       count_fits = omega (arith, so.within, so.counted, at_most at (λ k. not (is_marked map k)))
 
       -- After the last address all is blanked.
-      pub all_blanked : length map ≡ 8192 → 65536 ≤ at
-          → filled (record { refusal = 0; blanked = blanked }) memory ≡ blank_of map byte image
-      unfolding refusal_of
-      all_blanked map-size h =
+      pub all_blanked : 65536 ≤ at → (blanked ≡ unmarked map) × (memory ≡ blanked_image map byte image)
+      all_blanked h =
           let end : at ≡ 65536 = omega (arith, so.within) in
-          let is = only_blanked map byte image memory (so.size ∙ sym size) (λ k q. so.done k (omega arith)) in
-          let number : blanked ≡ how_many 65536 (λ k. not (is_marked map k)) = rw (← end) so.counted in
-          rw (eq-eqb _ _ size, eq-eqb _ _ map-size, is, number)
+          (rw (← end) so.counted, only_blanked map byte image memory (so.size ∙ sym size) (λ k q. so.done k (omega arith)))

@@ -2,9 +2,9 @@
 -- image and a map of any length. Where the run on the image is refused, so is that on the blanked one. The map has at least the marks of
 -- the run's own, as before.
 -- Assumes nothing.
-use Rattle.std.specs.Prelude.{ℕ, ◌≡◌, refl, List, length}
-use Rattle.std.proofs.Common.{sym, ◌∙◌, true≢false, eq-eqb, ne_eqb}
-use Rattle.std.proofs.Math.Decide.{ℕ_discrete}
+use Rattle.std.specs.Prelude.{ℕ, ◌≡◌, refl, List, length, Option, Some, None, Result}
+use Rattle.std.proofs.Common.{sym, ◌∙◌, true≢false}
+use Rattle.refusals.specs.declared.Refusal.{Refusal}
 use Rattle.memory.specs.World.{World, world}
 use Rattle.memory.specs.Access.{Outcome, outcome}
 use Rattle.memory.specs.Theorems.{Keeps}
@@ -33,15 +33,15 @@ both_refused image second answer = record {
 
 module _ (number budget : ℕ) (cpu : Processor) where
   -- What a run on an image, from clear maps, answers and leaves.
-  abbrev pub answer_to : List ℕ → Outcome World Ran
+  abbrev pub answer_to : List ℕ → Outcome World (Result Ran Refusal)
   answer_to image = run_answer number budget cpu (world image clear clear)
 
-  right_size : (image : List ℕ) → refusal_of number (world image clear clear) ≡ 0 → length image ≡ 65536
+  right_size : (image : List ℕ) → refusal_of number (world image clear clear) ≡ None → length image ≡ 65536
   right_size image z = (sized number (world image clear clear) z).memory
 
-  in_edition : (image : List ℕ) → refusal_of number (world image clear clear) ≡ 0
+  in_edition : (image : List ℕ) → refusal_of number (world image clear clear) ≡ None
       → answer_to image ≡ played (edition_of number) budget cpu image
-  in_edition image z = rw (eq-eqb _ _ z) (sym (accepted_sized (edition_of number) budget cpu image (right_size image z)))
+  in_edition image z = rw z (sym (accepted_sized (edition_of number) budget cpu image (right_size image z)))
 
   module _ (image map : List ℕ) (byte : ℕ) where
     as_refused : refusal_of number (world (blank_of map byte image).left clear clear) ≡ refusal_of number (world image clear clear)
@@ -51,12 +51,12 @@ module _ (number budget : ℕ) (cpu : Processor) where
     -- Blanked by a map that has at least the marks of the read map which the run left, the image gives the same.
     pub same_answer : Keeps (answer_to image).left.reads map
         → Same image (blank_of map byte image).left (answer_to image) (answer_to (blank_of map byte image).left)
-    same_answer more = go (ℕ_discrete (refusal_of number (world image clear clear)) 0)
+    same_answer more = go (refusal_of number (world image clear clear)) refl
       where
-        go : Dec (refusal_of number (world image clear clear) ≡ 0)
+        go : (r : Option Refusal) → refusal_of number (world image clear clear) ≡ r
             → Same image (blank_of map byte image).left (answer_to image) (answer_to (blank_of map byte image).left)
-        go (yes z) =
+        go None z =
             let is = in_edition image z in
             rw (is, in_edition (blank_of map byte image).left (as_refused ∙ z))
             (run_with_more (edition_of number) budget cpu image (right_size image z) byte map (rw is at more))
-        go (no n) = rw (as_refused, ne_eqb _ _ n) (both_refused image (blank_of map byte image).left _)
+        go (Some r) z = rw (as_refused, z) (both_refused image (blank_of map byte image).left _)

@@ -4,37 +4,18 @@
 ghost use Rattle.std.specs.Prelude.{◌≡◌, length};
 ghost use Rattle.laws.specs.Lent.{lent};
 ghost use Rattle.laws.specs.Filled.{Fills};
-ghost use Rattle.blanking.specs.Calls.{refused, blank_of};
+ghost use Rattle.blanking.specs.Calls.{unmarked, blanked_image, blank_of};
 ghost use Rattle.blanking.specs.Together.{together};
 
-// What blanking answers: refusal 0 and how many addresses were given the byte; or the refusal and 0.
-#[derive(Drop)]
-pub struct Blanked {
-    pub refusal: u8,
-    pub blanked: u32,
-}
-
-// Blanking that is refused.
-fn refused(refusal: u8) -> Blanked
-    ensures { result ≡ refused refusal }
-{
-    Blanked {
-        refusal,
-        blanked: 0,
-    }
-}
+use marks::Map;
+use memory::Memory;
+use refusals::Refusal;
 
 // Puts the byte at every address that the map does not mark, and counts these addresses, also where the byte stood there before. What is
-// marked stays. Refusals: 1 memory that is not 65,536 bytes, 2 a map that is not 8,192 bytes.
-pub fn blank(memory: &mut [u8], map: &[u8], byte: u8) -> Blanked
-    ensures { Fills (blank_of map.now byte) (lent memory) result }
+// marked stays.
+fn blank_within(memory: &mut Memory, map: &Map, byte: u8) -> u32
+    ensures { (result ≡ unmarked map.now) × (memory.new ≡ blanked_image map.now byte memory.old) }
 {
-    if memory.len() != 65536 {
-        return refused(1);
-    }
-    if map.len() != 8192 {
-        return refused(2);
-    }
     let mut blanked: u32 = 0;
     let mut at = 0;
     while at < 65536 {
@@ -45,10 +26,20 @@ pub fn blank(memory: &mut [u8], map: &[u8], byte: u8) -> Blanked
         }
         at += 1;
     }
-    Blanked {
-        refusal: 0,
-        blanked,
-    }
+    blanked
+}
+
+// The same, on memory of any length and a map of any length. Refusals: Memory, not 65,536 bytes; Map, not 8,192 bytes.
+pub fn blank(memory: &mut [u8], map: &[u8], byte: u8) -> Result<u32, Refusal>
+    ensures { Fills (blank_of map.now byte) (lent memory) result }
+{
+    let Some(memory) = memory.as_mut_array::<65536>() else {
+        return Err(Refusal::Memory);
+    };
+    let Some(map) = map.as_array::<8192>() else {
+        return Err(Refusal::Map);
+    };
+    Ok(blank_within(memory, map, byte))
 }
 
 // Puts a map together with another, byte by byte: for an image that is to keep what either marks.

@@ -1,13 +1,13 @@
 -- The last n bytes of a map, those from a place on, and the map with others in their place.
 -- Assumes nothing.
-use Prim.Native.Nat.{ℕ, ◌+◌, ◌-◌, ◌<◌, ◌≤◌}
+use Prim.Native.Nat.{ℕ, ◌+◌, ◌-◌, ◌<◌}
 use mathlib.Core.Path.{◌≡◌, sym, ◌∙◌}
-use mathlib.Core.List.{List, ◌++◌}
+use mathlib.Core.List.{List, ◌++◌, append-nil}
 use native.Mathlib.Decide.{dec_lt}
 use native.Mathlib.Omega.{arith}
-use lib.ListN.{length, get_or, set, take, drop, length-append, length-drop, get_or-append}
-use lib.Seq.{length-take-le, get_or-take, get_or-append-add, ext_get_or}
-use Rattle.boot_rom.proofs.Laid.{Laid, none_laid, one_laid, all_laid}
+use lib.ListN.{length, get_or, take, drop, drop_of_length-le, length-append, length-drop, get_or-append}
+use lib.Seq.{take_all, length-take-le, get_or-take, get_or-append-add, ext_get_or}
+use borrow.Rule.Slice.PartMut.{mid_of, put_mid}
 
 module _ (from n : ℕ) (map : List ℕ) (ends : length map ≡ from + n) where
   pub length_last : length (drop from map) ≡ n
@@ -41,15 +41,15 @@ module _ (from n : ℕ) (map : List ℕ) (ends : length map ≡ from + n) where
         go i h (no q) =
             let at : from + (i - from) ≡ i = omega arith in rw at at (get_inside (i - from) ∙ inside (i - from) (omega arith))
 
-    -- One after the other they are put there.
-    pub none_put : Laid map put map from
-    none_put = none_laid map put from (omega arith) (λ k h. sym (get_before k h))
+-- The last eight bytes of a map, as the code slices them.
+module _ (map : List ℕ) (size : length map ≡ 8192) where
+  pub last_of : mid_of 8184 8 map ≡ drop 8184 map
+  last_of = take_all 8 (drop 8184 map) (omega (arith, length_last 8184 8 map size))
 
-    module _ {now : List ℕ} {i : ℕ} (so : Laid map put now (from + i)) where
-      pub one_put : (x : ℕ) → i < n → x ≡ get_or part i 0 → Laid map put (set now (from + i) x) (from + (i + 1))
-      one_put x h e =
-          let next : from + (i + 1) ≡ from + i + 1 = omega arith in
-          rw next (one_laid map put so x (omega arith) (e ∙ sym (get_inside i)))
+  pub eight_last : length (mid_of 8184 8 map) ≡ 8
+  eight_last = rw last_of (length_last 8184 8 map size)
 
-      pub all_put : n ≤ i → now ≡ put
-      all_put h = all_laid map put so length_put (omega arith)
+  pub put_last : (part : List ℕ) → put_mid 8184 8 map part ≡ take 8184 map ++ part
+  put_last part =
+      let last = length_last 8184 8 map size in
+      rw (drop_of_length-le (drop 8184 map) {i = 8} (omega arith), append-nil)

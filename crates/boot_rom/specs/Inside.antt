@@ -1,6 +1,13 @@
--- Parts of maps: whether one has a mark, and marks that are put back.
-use Rattle.std.specs.Prelude.{ℕ, ◌-◌, Bool, false, not, ◌||◌, List, [], ◌∷◌, eqb}
+-- Parts of maps: one that is taken out, whether one has a mark, and marks that are put back.
+use Rattle.std.specs.Prelude.{ℕ, ◌-◌, ◌<◌, ◌≡◌, Bool, false, not, ◌||◌, List, [], ◌∷◌, ◌++◌, eqb, length, get_or, take, drop, replicate}
 use Rattle.std.specs.Int.Bits.{bit_and, bit_or}
+
+-- The last eight bytes of a map, which has its length, are taken out of it: what was there, and the map without them.
+pub record Taken (map there left : List ℕ) : Type 0 where
+  pub size : length map ≡ 8192
+  pub bytes : (i : ℕ) → get_or map i 0 < 256
+  pub own : there ≡ drop 8184 map
+  pub bare : left ≡ take 8184 map ++ replicate 8 0
 
 -- Whether a part of a map has a mark.
 unfoldable pub any_marked : List ℕ → Bool

@@ -2,7 +2,6 @@
 use Rattle.std.specs.Prelude.{ℕ, Bool, List, drop}
 use Rattle.memory.specs.World.{World}
 use Rattle.memory.specs.Access.{Outcome, outcome, perform}
-use Rattle.editions.specs.Editions.{edition_of}
 use Rattle.editions.specs.declared.Edition.{Edition}
 use Rattle.processor.specs.declared.Processor.{Processor}
 use Rattle.engine.specs.Entry.{counted_step}
@@ -15,7 +14,7 @@ abbrev pub reads_rom : Edition → Processor → List ℕ → Bool
 reads_rom edition cpu memory = any_marked (drop 8184 (alone edition cpu memory).left.reads)
 
 -- The step itself, and whether it reads there. The maps are left as the step leaves them.
-abbrev pub rom_step : ℕ → Processor → World → Outcome World Stepped
-rom_step number cpu w =
-    let o = perform (counted_step (edition_of number) cpu) w in
-    outcome (record { cpu = o.result.regs; rom = reads_rom (edition_of number) cpu w.memory }) o.left
+abbrev pub rom_step : Edition → Processor → World → Outcome World Stepped
+rom_step edition cpu w =
+    let o = perform (counted_step edition cpu) w in
+    outcome (record { cpu = o.result.regs; rom = reads_rom edition cpu w.memory }) o.left

@@ -1,16 +1,15 @@
 // A with a byte in memory, in eight columns; with the operand byte in one more.
 ghost use Rattle.std.specs.Prelude.{◌<◌};
 ghost use Rattle.laws.specs.Lent.{lent};
-ghost use Rattle.cells.specs.Cells.{Laid};
 ghost use Rattle.by_column.specs.Columns.{Follows, Does-in};
 
 use crate::families::accumulate;
+use cells::Cells;
 use editions::Edition;
 use registers::Registers;
 
 // d
-pub fn column_04(cpu: Registers, cells: &mut [u16], row: u8) -> Registers
-    requires laid { Laid cells.old }
+pub fn column_04(cpu: Registers, cells: &mut Cells, row: u8) -> Registers
     requires row_bound { row < 8 }
     ensures { Follows 0x04 row cpu (lent cells) result }
 {
@@ -25,8 +24,7 @@ pub fn column_04(cpu: Registers, cells: &mut [u16], row: u8) -> Registers
 }
 
 // !a
-pub fn column_05(cpu: Registers, cells: &mut [u16], row: u8) -> Registers
-    requires laid { Laid cells.old }
+pub fn column_05(cpu: Registers, cells: &mut Cells, row: u8) -> Registers
     requires row_bound { row < 8 }
     ensures { Follows 0x05 row cpu (lent cells) result }
 {
@@ -41,8 +39,7 @@ pub fn column_05(cpu: Registers, cells: &mut [u16], row: u8) -> Registers
 }
 
 // (X)
-pub fn column_06(cpu: Registers, cells: &mut [u16], row: u8) -> Registers
-    requires laid { Laid cells.old }
+pub fn column_06(cpu: Registers, cells: &mut Cells, row: u8) -> Registers
     requires row_bound { row < 8 }
     ensures { Follows 0x06 row cpu (lent cells) result }
 {
@@ -56,8 +53,7 @@ pub fn column_06(cpu: Registers, cells: &mut [u16], row: u8) -> Registers
 }
 
 // [d+X]
-pub fn column_07(cpu: Registers, edition: Edition, cells: &mut [u16], row: u8) -> Registers
-    requires laid { Laid cells.old }
+pub fn column_07(cpu: Registers, edition: Edition, cells: &mut Cells, row: u8) -> Registers
     requires row_bound { row < 8 }
     ensures { Does-in edition 0x07 row cpu (lent cells) result }
 {
@@ -72,8 +68,7 @@ pub fn column_07(cpu: Registers, edition: Edition, cells: &mut [u16], row: u8) -
 }
 
 // d+X
-pub fn column_14(cpu: Registers, cells: &mut [u16], row: u8) -> Registers
-    requires laid { Laid cells.old }
+pub fn column_14(cpu: Registers, cells: &mut Cells, row: u8) -> Registers
     requires row_bound { row < 8 }
     ensures { Follows 0x14 row cpu (lent cells) result }
 {
@@ -88,8 +83,7 @@ pub fn column_14(cpu: Registers, cells: &mut [u16], row: u8) -> Registers
 }
 
 // !a+X
-pub fn column_15(cpu: Registers, cells: &mut [u16], row: u8) -> Registers
-    requires laid { Laid cells.old }
+pub fn column_15(cpu: Registers, cells: &mut Cells, row: u8) -> Registers
     requires row_bound { row < 8 }
     ensures { Follows 0x15 row cpu (lent cells) result }
 {
@@ -104,8 +98,7 @@ pub fn column_15(cpu: Registers, cells: &mut [u16], row: u8) -> Registers
 }
 
 // !a+Y
-pub fn column_16(cpu: Registers, cells: &mut [u16], row: u8) -> Registers
-    requires laid { Laid cells.old }
+pub fn column_16(cpu: Registers, cells: &mut Cells, row: u8) -> Registers
     requires row_bound { row < 8 }
     ensures { Follows 0x16 row cpu (lent cells) result }
 {
@@ -120,8 +113,7 @@ pub fn column_16(cpu: Registers, cells: &mut [u16], row: u8) -> Registers
 }
 
 // [d]+Y
-pub fn column_17(cpu: Registers, edition: Edition, cells: &mut [u16], row: u8) -> Registers
-    requires laid { Laid cells.old }
+pub fn column_17(cpu: Registers, edition: Edition, cells: &mut Cells, row: u8) -> Registers
     requires row_bound { row < 8 }
     ensures { Does-in edition 0x17 row cpu (lent cells) result }
 {
@@ -136,8 +128,7 @@ pub fn column_17(cpu: Registers, edition: Edition, cells: &mut [u16], row: u8) -
 }
 
 // #i; CMP X in the row that stores elsewhere.
-pub fn column_08(cpu: Registers, cells: &mut [u16], row: u8) -> Registers
-    requires laid { Laid cells.old }
+pub fn column_08(cpu: Registers, cells: &mut Cells, row: u8) -> Registers
     requires row_bound { row < 8 }
     ensures { Follows 0x08 row cpu (lent cells) result }
 {

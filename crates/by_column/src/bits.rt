@@ -2,9 +2,9 @@
 ghost use Rattle.std.specs.Prelude.{◌≡◌, ◌^◌, ◌<◌, ◌≤◌};
 ghost use Rattle.laws.specs.Lent.{lent};
 ghost use Rattle.instructions.specs.Effects.{with_bit, has_bit};
-ghost use Rattle.cells.specs.Cells.{Laid};
 ghost use Rattle.by_column.specs.Columns.{Follows, carry_group, Leaves};
 
+use cells::Cells;
 use registers::Registers;
 
 // The value of a bit.
@@ -30,8 +30,7 @@ fn has_bit(byte: u8, bit: u8) -> bool
 }
 
 // SET1
-pub fn column_02(cpu: Registers, cells: &mut [u16], row: u8) -> Registers
-    requires laid { Laid cells.old }
+pub fn column_02(cpu: Registers, cells: &mut Cells, row: u8) -> Registers
     requires row_bound { row < 8 }
     ensures { Follows 0x02 row cpu (lent cells) result }
 {
@@ -42,8 +41,7 @@ pub fn column_02(cpu: Registers, cells: &mut [u16], row: u8) -> Registers
 }
 
 // CLR1
-pub fn column_12(cpu: Registers, cells: &mut [u16], row: u8) -> Registers
-    requires laid { Laid cells.old }
+pub fn column_12(cpu: Registers, cells: &mut Cells, row: u8) -> Registers
     requires row_bound { row < 8 }
     ensures { Follows 0x12 row cpu (lent cells) result }
 {
@@ -54,8 +52,7 @@ pub fn column_12(cpu: Registers, cells: &mut [u16], row: u8) -> Registers
 }
 
 // BBS
-pub fn column_03(cpu: Registers, cells: &mut [u16], row: u8) -> Registers
-    requires laid { Laid cells.old }
+pub fn column_03(cpu: Registers, cells: &mut Cells, row: u8) -> Registers
     requires row_bound { row < 8 }
     ensures { Follows 0x03 row cpu (lent cells) result }
 {
@@ -65,8 +62,7 @@ pub fn column_03(cpu: Registers, cells: &mut [u16], row: u8) -> Registers
 }
 
 // BBC
-pub fn column_13(cpu: Registers, cells: &mut [u16], row: u8) -> Registers
-    requires laid { Laid cells.old }
+pub fn column_13(cpu: Registers, cells: &mut Cells, row: u8) -> Registers
     requires row_bound { row < 8 }
     ensures { Follows 0x13 row cpu (lent cells) result }
 {
@@ -92,8 +88,7 @@ fn carry_with(cpu: Registers, row: u8, v: u8, bit: u8) -> Registers
 }
 
 // Mb: C with a bit, C into a bit, and a bit inverted.
-pub fn column_0a(cpu: Registers, cells: &mut [u16], row: u8) -> Registers
-    requires laid { Laid cells.old }
+pub fn column_0a(cpu: Registers, cells: &mut Cells, row: u8) -> Registers
     requires row_bound { row < 8 }
     ensures { Follows 0x0A row cpu (lent cells) result }
 {

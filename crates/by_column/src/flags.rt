@@ -2,9 +2,9 @@
 ghost use Rattle.std.specs.Prelude.{◌≡◌, ◌<◌};
 ghost use Rattle.laws.specs.Lent.{lent};
 ghost use Rattle.registers.specs.Flat.{record_of};
-ghost use Rattle.cells.specs.Cells.{Laid};
 ghost use Rattle.by_column.specs.Columns.{Follows, Becomes, branch_flag};
 
+use cells::Cells;
 use registers::Registers;
 
 // NOP, and the instructions that set or clear a flag.
@@ -42,8 +42,7 @@ fn branches(cpu: Registers, row: u8) -> bool
 }
 
 // BPL, BMI, BVC, BVS, BCC, BCS, BNE, BEQ
-pub fn column_10(cpu: Registers, cells: &mut [u16], row: u8) -> Registers
-    requires laid { Laid cells.old }
+pub fn column_10(cpu: Registers, cells: &mut Cells, row: u8) -> Registers
     requires row_bound { row < 8 }
     ensures { Follows 0x10 row cpu (lent cells) result }
 {

@@ -3,22 +3,21 @@ ghost use Rattle.std.specs.Prelude.{◌<◌};
 ghost use Rattle.laws.specs.Lent.{lent};
 ghost use Rattle.modes.specs.Stack.{called};
 ghost use Rattle.registers.specs.Flat.{record_of};
-ghost use Rattle.cells.specs.Cells.{Laid, Performs};
+ghost use Rattle.cells.specs.Cells.{Performs};
 ghost use Rattle.by_column.specs.Columns.{Follows};
 
+use cells::Cells;
 use registers::Registers;
 
 // PC on the stack, and on to an address.
-fn call(cpu: Registers, cells: &mut [u16], to: u16) -> Registers
-    requires { Laid cells.old }
+fn call(cpu: Registers, cells: &mut Cells, to: u16) -> Registers
     ensures { Performs (called to (record_of cpu)) (lent cells) (record_of result) }
 {
     operands::push_word(cpu, cells, cpu.pc).jump(to)
 }
 
 // TCALL with an even number
-pub fn column_01(cpu: Registers, cells: &mut [u16], row: u8) -> Registers
-    requires laid { Laid cells.old }
+pub fn column_01(cpu: Registers, cells: &mut Cells, row: u8) -> Registers
     requires row_bound { row < 8 }
     ensures { Follows 0x01 row cpu (lent cells) result }
 {
@@ -27,8 +26,7 @@ pub fn column_01(cpu: Registers, cells: &mut [u16], row: u8) -> Registers
 }
 
 // TCALL with an odd number
-pub fn column_11(cpu: Registers, cells: &mut [u16], row: u8) -> Registers
-    requires laid { Laid cells.old }
+pub fn column_11(cpu: Registers, cells: &mut Cells, row: u8) -> Registers
     requires row_bound { row < 8 }
     ensures { Follows 0x11 row cpu (lent cells) result }
 {
@@ -37,8 +35,7 @@ pub fn column_11(cpu: Registers, cells: &mut [u16], row: u8) -> Registers
 }
 
 // BRK
-fn brk(cpu: Registers, cells: &mut [u16]) -> Registers
-    requires { Laid cells.old }
+fn brk(cpu: Registers, cells: &mut Cells) -> Registers
     ensures { Follows 0x0F 0 cpu (lent cells) result }
 {
     let to = operands::read_u16(cells, 0xFFDE);
@@ -48,8 +45,7 @@ fn brk(cpu: Registers, cells: &mut [u16]) -> Registers
 }
 
 // PCALL
-fn pcall(cpu: Registers, cells: &mut [u16]) -> Registers
-    requires { Laid cells.old }
+fn pcall(cpu: Registers, cells: &mut Cells) -> Registers
     ensures { Follows 0x0F 2 cpu (lent cells) result }
 {
     let byte = operands::fetch(cpu, cells);
@@ -57,8 +53,7 @@ fn pcall(cpu: Registers, cells: &mut [u16]) -> Registers
 }
 
 // RET
-fn ret(cpu: Registers, cells: &mut [u16]) -> Registers
-    requires { Laid cells.old }
+fn ret(cpu: Registers, cells: &mut Cells) -> Registers
     ensures { Follows 0x0F 3 cpu (lent cells) result }
 {
     let low = operands::pull(cpu, cells);
@@ -68,8 +63,7 @@ fn ret(cpu: Registers, cells: &mut [u16]) -> Registers
 }
 
 // RETI
-fn reti(cpu: Registers, cells: &mut [u16]) -> Registers
-    requires { Laid cells.old }
+fn reti(cpu: Registers, cells: &mut Cells) -> Registers
     ensures { Follows 0x1F 3 cpu (lent cells) result }
 {
     let status = operands::pull(cpu, cells);
@@ -82,8 +76,7 @@ fn reti(cpu: Registers, cells: &mut [u16]) -> Registers
 }
 
 // MOV d,#i
-fn immediate_to_direct(cpu: Registers, cells: &mut [u16]) -> Registers
-    requires { Laid cells.old }
+fn immediate_to_direct(cpu: Registers, cells: &mut Cells) -> Registers
     ensures { Follows 0x0F 4 cpu (lent cells) result }
 {
     let v = operands::fetch(cpu, cells);
@@ -94,8 +87,7 @@ fn immediate_to_direct(cpu: Registers, cells: &mut [u16]) -> Registers
 }
 
 // MOV (X)+,A
-fn store_and_raise(cpu: Registers, cells: &mut [u16]) -> Registers
-    requires { Laid cells.old }
+fn store_and_raise(cpu: Registers, cells: &mut Cells) -> Registers
     ensures { Follows 0x0F 5 cpu (lent cells) result }
 {
     let at = operands::direct(cpu, cpu.x, 0);
@@ -104,8 +96,7 @@ fn store_and_raise(cpu: Registers, cells: &mut [u16]) -> Registers
 }
 
 // MOV A,(X)+
-fn load_and_raise(cpu: Registers, cells: &mut [u16]) -> Registers
-    requires { Laid cells.old }
+fn load_and_raise(cpu: Registers, cells: &mut Cells) -> Registers
     ensures { Follows 0x1F 5 cpu (lent cells) result }
 {
     let at = operands::direct(cpu, cpu.x, 0);
@@ -114,8 +105,7 @@ fn load_and_raise(cpu: Registers, cells: &mut [u16]) -> Registers
 }
 
 // BRK; BRA; PCALL; RET; MOV d,#i; MOV (X)+,A; MUL; SLEEP
-pub fn column_0f(cpu: Registers, cells: &mut [u16], row: u8) -> Registers
-    requires laid { Laid cells.old }
+pub fn column_0f(cpu: Registers, cells: &mut Cells, row: u8) -> Registers
     requires row_bound { row < 8 }
     ensures { Follows 0x0F row cpu (lent cells) result }
 {
@@ -132,8 +122,7 @@ pub fn column_0f(cpu: Registers, cells: &mut [u16], row: u8) -> Registers
 }
 
 // JMP [!a+X]
-fn jump_by(cpu: Registers, cells: &mut [u16]) -> Registers
-    requires { Laid cells.old }
+fn jump_by(cpu: Registers, cells: &mut Cells) -> Registers
     ensures { Follows 0x1F 0 cpu (lent cells) result }
 {
     let at = operands::abs_off(cpu, cells, cpu.x);
@@ -142,8 +131,7 @@ fn jump_by(cpu: Registers, cells: &mut [u16]) -> Registers
 }
 
 // JMP !a
-fn jump_to(cpu: Registers, cells: &mut [u16]) -> Registers
-    requires { Laid cells.old }
+fn jump_to(cpu: Registers, cells: &mut Cells) -> Registers
     ensures { Follows 0x1F 2 cpu (lent cells) result }
 {
     let to = operands::abs_off(cpu, cells, 0);
@@ -151,8 +139,7 @@ fn jump_to(cpu: Registers, cells: &mut [u16]) -> Registers
 }
 
 // CALL !a
-fn call_to(cpu: Registers, cells: &mut [u16]) -> Registers
-    requires { Laid cells.old }
+fn call_to(cpu: Registers, cells: &mut Cells) -> Registers
     ensures { Follows 0x1F 1 cpu (lent cells) result }
 {
     let to = operands::abs_off(cpu, cells, 0);
@@ -160,8 +147,7 @@ fn call_to(cpu: Registers, cells: &mut [u16]) -> Registers
 }
 
 // JMP [!a+X]; CALL; JMP; RETI; XCN; MOV A,(X)+; DAA; STOP
-pub fn column_1f(cpu: Registers, cells: &mut [u16], row: u8) -> Registers
-    requires laid { Laid cells.old }
+pub fn column_1f(cpu: Registers, cells: &mut Cells, row: u8) -> Registers
     requires row_bound { row < 8 }
     ensures { Follows 0x1F row cpu (lent cells) result }
 {

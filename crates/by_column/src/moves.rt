@@ -1,14 +1,13 @@
 // Pushes, operand bytes with X and Y, and what needs no memory: shifts of A, moves between registers.
 ghost use Rattle.std.specs.Prelude.{◌<◌};
 ghost use Rattle.laws.specs.Lent.{lent};
-ghost use Rattle.cells.specs.Cells.{Laid};
 ghost use Rattle.by_column.specs.Columns.{Follows, Becomes};
 
+use cells::Cells;
 use registers::Registers;
 
 // MOV Y,#i
-fn immediate_y(cpu: Registers, cells: &mut [u16]) -> Registers
-    requires { Laid cells.old }
+fn immediate_y(cpu: Registers, cells: &mut Cells) -> Registers
     ensures { Follows 0x0D 4 cpu (lent cells) result }
 {
     let v = operands::fetch(cpu, cells);
@@ -16,8 +15,7 @@ fn immediate_y(cpu: Registers, cells: &mut [u16]) -> Registers
 }
 
 // CMP Y,#i
-fn compare_y(cpu: Registers, cells: &mut [u16]) -> Registers
-    requires { Laid cells.old }
+fn compare_y(cpu: Registers, cells: &mut Cells) -> Registers
     ensures { Follows 0x0D 5 cpu (lent cells) result }
 {
     let v = operands::fetch(cpu, cells);
@@ -25,8 +23,7 @@ fn compare_y(cpu: Registers, cells: &mut [u16]) -> Registers
 }
 
 // MOV X,#i
-fn immediate_x(cpu: Registers, cells: &mut [u16]) -> Registers
-    requires { Laid cells.old }
+fn immediate_x(cpu: Registers, cells: &mut Cells) -> Registers
     ensures { Follows 0x0D 6 cpu (lent cells) result }
 {
     let v = operands::fetch(cpu, cells);
@@ -34,8 +31,7 @@ fn immediate_x(cpu: Registers, cells: &mut [u16]) -> Registers
 }
 
 // PUSH PSW, A, X, Y; MOV Y,#i; CMP Y,#i; MOV X,#i; NOTC
-pub fn column_0d(cpu: Registers, cells: &mut [u16], row: u8) -> Registers
-    requires laid { Laid cells.old }
+pub fn column_0d(cpu: Registers, cells: &mut Cells, row: u8) -> Registers
     requires row_bound { row < 8 }
     ensures { Follows 0x0D row cpu (lent cells) result }
 {

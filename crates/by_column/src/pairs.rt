@@ -3,15 +3,15 @@ ghost use Rattle.std.specs.Prelude.{◌<◌, ◌≤◌};
 ghost use Rattle.laws.specs.Lent.{lent};
 ghost use Rattle.modes.specs.Modes.{addressed};
 ghost use Rattle.registers.specs.Flat.{record_of};
-ghost use Rattle.cells.specs.Cells.{Laid, Performs};
+ghost use Rattle.cells.specs.Cells.{Performs};
 ghost use Rattle.by_column.specs.Columns.{Follows, paired, moved};
 
 use crate::families::combine;
+use cells::Cells;
 use registers::Registers;
 
 // A source with the target at an address, PC behind the operand bytes.
-fn combined(cpu: Registers, cells: &mut [u16], row: u8, at: u16, source: u8) -> Registers
-    requires laid { Laid cells.old }
+fn combined(cpu: Registers, cells: &mut Cells, row: u8, at: u16, source: u8) -> Registers
     requires row_bound { row < 6 }
     ensures { Performs (paired row at source (record_of cpu)) (lent cells) (record_of result) }
 {
@@ -25,8 +25,7 @@ fn combined(cpu: Registers, cells: &mut [u16], row: u8, at: u16, source: u8) -> 
 }
 
 // MOV of X to or from an address, PC behind the operand bytes.
-fn move_x(cpu: Registers, cells: &mut [u16], row: u8, at: u16) -> Registers
-    requires laid { Laid cells.old }
+fn move_x(cpu: Registers, cells: &mut Cells, row: u8, at: u16) -> Registers
     requires le_row { (6 ≤ row) × (row < 8) }
     ensures { Performs (moved row (addressed (record_of cpu) at)) (lent cells) (record_of result) }
 {
@@ -39,8 +38,7 @@ fn move_x(cpu: Registers, cells: &mut [u16], row: u8, at: u16) -> Registers
 }
 
 // d,d; in the last two rows MOV !a,X and MOV X,!a.
-pub fn column_09(cpu: Registers, cells: &mut [u16], row: u8) -> Registers
-    requires laid { Laid cells.old }
+pub fn column_09(cpu: Registers, cells: &mut Cells, row: u8) -> Registers
     requires row_bound { row < 8 }
     ensures { Follows 0x09 row cpu (lent cells) result }
 {
@@ -56,8 +54,7 @@ pub fn column_09(cpu: Registers, cells: &mut [u16], row: u8) -> Registers
 }
 
 // d,#i; in the last two rows MOV d,X and MOV X,d.
-pub fn column_18(cpu: Registers, cells: &mut [u16], row: u8) -> Registers
-    requires laid { Laid cells.old }
+pub fn column_18(cpu: Registers, cells: &mut Cells, row: u8) -> Registers
     requires row_bound { row < 8 }
     ensures { Follows 0x18 row cpu (lent cells) result }
 {
@@ -72,8 +69,7 @@ pub fn column_18(cpu: Registers, cells: &mut [u16], row: u8) -> Registers
 }
 
 // (X),(Y); in the last two rows MOV d+Y,X and MOV X,d+Y.
-pub fn column_19(cpu: Registers, cells: &mut [u16], row: u8) -> Registers
-    requires laid { Laid cells.old }
+pub fn column_19(cpu: Registers, cells: &mut Cells, row: u8) -> Registers
     requires row_bound { row < 8 }
     ensures { Follows 0x19 row cpu (lent cells) result }
 {

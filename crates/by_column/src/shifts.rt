@@ -1,15 +1,14 @@
 // Shifts, DEC and INC of memory; Y with memory.
 ghost use Rattle.std.specs.Prelude.{◌<◌};
 ghost use Rattle.laws.specs.Lent.{lent};
-ghost use Rattle.cells.specs.Cells.{Laid};
 ghost use Rattle.by_column.specs.Columns.{Follows};
 
 use crate::families::shift;
+use cells::Cells;
 use registers::Registers;
 
 // d
-pub fn column_0b(cpu: Registers, cells: &mut [u16], row: u8) -> Registers
-    requires laid { Laid cells.old }
+pub fn column_0b(cpu: Registers, cells: &mut Cells, row: u8) -> Registers
     requires row_bound { row < 8 }
     ensures { Follows 0x0B row cpu (lent cells) result }
 {
@@ -29,8 +28,7 @@ pub fn column_0b(cpu: Registers, cells: &mut [u16], row: u8) -> Registers
 }
 
 // !a
-pub fn column_0c(cpu: Registers, cells: &mut [u16], row: u8) -> Registers
-    requires laid { Laid cells.old }
+pub fn column_0c(cpu: Registers, cells: &mut Cells, row: u8) -> Registers
     requires row_bound { row < 8 }
     ensures { Follows 0x0C row cpu (lent cells) result }
 {
@@ -50,8 +48,7 @@ pub fn column_0c(cpu: Registers, cells: &mut [u16], row: u8) -> Registers
 }
 
 // d+X
-pub fn column_1b(cpu: Registers, cells: &mut [u16], row: u8) -> Registers
-    requires laid { Laid cells.old }
+pub fn column_1b(cpu: Registers, cells: &mut Cells, row: u8) -> Registers
     requires row_bound { row < 8 }
     ensures { Follows 0x1B row cpu (lent cells) result }
 {

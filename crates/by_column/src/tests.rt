@@ -4,14 +4,14 @@ ghost use Rattle.laws.specs.Lent.{lent};
 ghost use Rattle.modes.specs.Modes as modes;
 ghost use Rattle.instructions.specs.Rows.Operation.{cbne as compares_and_branches};
 ghost use Rattle.registers.specs.Flat.{record_of};
-ghost use Rattle.cells.specs.Cells.{Laid, Performs};
+ghost use Rattle.cells.specs.Cells.{Performs};
 ghost use Rattle.by_column.specs.Columns.{Follows, compared_at};
 
+use cells::Cells;
 use registers::Registers;
 
 // TSET1
-fn tset(cpu: Registers, cells: &mut [u16]) -> Registers
-    requires { Laid cells.old }
+fn tset(cpu: Registers, cells: &mut Cells) -> Registers
     ensures { Follows 0x0E 0 cpu (lent cells) result }
 {
     let at = operands::abs_off(cpu, cells, 0);
@@ -21,8 +21,7 @@ fn tset(cpu: Registers, cells: &mut [u16]) -> Registers
 }
 
 // TCLR1
-fn tclr(cpu: Registers, cells: &mut [u16]) -> Registers
-    requires { Laid cells.old }
+fn tclr(cpu: Registers, cells: &mut Cells) -> Registers
     ensures { Follows 0x0E 2 cpu (lent cells) result }
 {
     let at = operands::abs_off(cpu, cells, 0);
@@ -32,8 +31,7 @@ fn tclr(cpu: Registers, cells: &mut [u16]) -> Registers
 }
 
 // CBNE, d plus an index
-fn cbne(cpu: Registers, cells: &mut [u16], index: u8) -> Registers
-    requires { Laid cells.old }
+fn cbne(cpu: Registers, cells: &mut Cells, index: u8) -> Registers
     ensures { Performs (compared_at (modes.direct index (record_of cpu)) compares_and_branches) (lent cells) (record_of result) }
 {
     let at = operands::d_off(cpu, cells, index);
@@ -42,8 +40,7 @@ fn cbne(cpu: Registers, cells: &mut [u16], index: u8) -> Registers
 }
 
 // DBNZ on memory, which stores before it reads its displacement
-fn dbnz_memory(cpu: Registers, cells: &mut [u16]) -> Registers
-    requires { Laid cells.old }
+fn dbnz_memory(cpu: Registers, cells: &mut Cells) -> Registers
     ensures { Follows 0x0E 3 cpu (lent cells) result }
 {
     let at = operands::d_off(cpu, cells, 0);
@@ -54,8 +51,7 @@ fn dbnz_memory(cpu: Registers, cells: &mut [u16]) -> Registers
 }
 
 // DBNZ Y
-fn dbnz_y(cpu: Registers, cells: &mut [u16]) -> Registers
-    requires { Laid cells.old }
+fn dbnz_y(cpu: Registers, cells: &mut Cells) -> Registers
     ensures { Follows 0x1E 7 cpu (lent cells) result }
 {
     let less = processor::difference(cpu.y, 1);
@@ -63,32 +59,28 @@ fn dbnz_y(cpu: Registers, cells: &mut [u16]) -> Registers
 }
 
 // Pops: the byte from the stack, and SP one up.
-fn pop_psw(cpu: Registers, cells: &mut [u16]) -> Registers
-    requires { Laid cells.old }
+fn pop_psw(cpu: Registers, cells: &mut Cells) -> Registers
     ensures { Follows 0x0E 4 cpu (lent cells) result }
 {
     let v = operands::pull(cpu, cells);
     operands::raised(cpu).with_status(v)
 }
 
-fn pop_a(cpu: Registers, cells: &mut [u16]) -> Registers
-    requires { Laid cells.old }
+fn pop_a(cpu: Registers, cells: &mut Cells) -> Registers
     ensures { Follows 0x0E 5 cpu (lent cells) result }
 {
     let v = operands::pull(cpu, cells);
     operands::raised(cpu).with_a(v)
 }
 
-fn pop_x(cpu: Registers, cells: &mut [u16]) -> Registers
-    requires { Laid cells.old }
+fn pop_x(cpu: Registers, cells: &mut Cells) -> Registers
     ensures { Follows 0x0E 6 cpu (lent cells) result }
 {
     let v = operands::pull(cpu, cells);
     operands::raised(cpu).with_x(v)
 }
 
-fn pop_y(cpu: Registers, cells: &mut [u16]) -> Registers
-    requires { Laid cells.old }
+fn pop_y(cpu: Registers, cells: &mut Cells) -> Registers
     ensures { Follows 0x0E 7 cpu (lent cells) result }
 {
     let v = operands::pull(cpu, cells);
@@ -96,8 +88,7 @@ fn pop_y(cpu: Registers, cells: &mut [u16]) -> Registers
 }
 
 // TSET1; CBNE d; TCLR1; DBNZ d; POP PSW, A, X, Y
-pub fn column_0e(cpu: Registers, cells: &mut [u16], row: u8) -> Registers
-    requires laid { Laid cells.old }
+pub fn column_0e(cpu: Registers, cells: &mut Cells, row: u8) -> Registers
     requires row_bound { row < 8 }
     ensures { Follows 0x0E row cpu (lent cells) result }
 {
@@ -114,8 +105,7 @@ pub fn column_0e(cpu: Registers, cells: &mut [u16], row: u8) -> Registers
 }
 
 // CMP X,!a
-fn compare_x_abs(cpu: Registers, cells: &mut [u16]) -> Registers
-    requires { Laid cells.old }
+fn compare_x_abs(cpu: Registers, cells: &mut Cells) -> Registers
     ensures { Follows 0x1E 0 cpu (lent cells) result }
 {
     let at = operands::abs_off(cpu, cells, 0);
@@ -124,8 +114,7 @@ fn compare_x_abs(cpu: Registers, cells: &mut [u16]) -> Registers
 }
 
 // CMP X,d
-fn compare_x_d(cpu: Registers, cells: &mut [u16]) -> Registers
-    requires { Laid cells.old }
+fn compare_x_d(cpu: Registers, cells: &mut Cells) -> Registers
     ensures { Follows 0x1E 1 cpu (lent cells) result }
 {
     let at = operands::d_off(cpu, cells, 0);
@@ -134,8 +123,7 @@ fn compare_x_d(cpu: Registers, cells: &mut [u16]) -> Registers
 }
 
 // CMP Y,!a
-fn compare_y_abs(cpu: Registers, cells: &mut [u16]) -> Registers
-    requires { Laid cells.old }
+fn compare_y_abs(cpu: Registers, cells: &mut Cells) -> Registers
     ensures { Follows 0x1E 2 cpu (lent cells) result }
 {
     let at = operands::abs_off(cpu, cells, 0);
@@ -144,8 +132,7 @@ fn compare_y_abs(cpu: Registers, cells: &mut [u16]) -> Registers
 }
 
 // CMP Y,d
-fn compare_y_d(cpu: Registers, cells: &mut [u16]) -> Registers
-    requires { Laid cells.old }
+fn compare_y_d(cpu: Registers, cells: &mut Cells) -> Registers
     ensures { Follows 0x1E 3 cpu (lent cells) result }
 {
     let at = operands::d_off(cpu, cells, 0);
@@ -154,8 +141,7 @@ fn compare_y_d(cpu: Registers, cells: &mut [u16]) -> Registers
 }
 
 // CMP X and CMP Y; DIV; DAS; CBNE d+X; DBNZ Y
-pub fn column_1e(cpu: Registers, cells: &mut [u16], row: u8) -> Registers
-    requires laid { Laid cells.old }
+pub fn column_1e(cpu: Registers, cells: &mut Cells, row: u8) -> Registers
     requires row_bound { row < 8 }
     ensures { Follows 0x1E row cpu (lent cells) result }
 {

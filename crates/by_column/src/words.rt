@@ -1,15 +1,15 @@
 // Words of the direct page; MOV d,d.
 ghost use Rattle.std.specs.Prelude.{◌<◌, ◌≤◌};
 ghost use Rattle.laws.specs.Lent.{lent};
-ghost use Rattle.cells.specs.Cells.{Laid, Performs};
+ghost use Rattle.cells.specs.Cells.{Performs};
 ghost use Rattle.registers.specs.Flat.{record_of};
 ghost use Rattle.by_column.specs.Columns.{Follows, word_group, Leaves, word_stepped};
 
+use cells::Cells;
 use registers::Registers;
 
 // DECW and INCW: the word plus a number, stored.
-fn step_word(cpu: Registers, cells: &mut [u16], by: u16) -> Registers
-    requires { Laid cells.old }
+fn step_word(cpu: Registers, cells: &mut Cells, by: u16) -> Registers
     ensures { Performs (word_stepped by (record_of cpu)) (lent cells) (record_of result) }
 {
     let byte = operands::fetch(cpu, cells);
@@ -38,8 +38,7 @@ fn word_with(cpu: Registers, row: u8, low: u8, high: u8) -> Registers
     }
 }
 
-fn with_word(cpu: Registers, cells: &mut [u16], row: u8) -> Registers
-    requires laid { Laid cells.old }
+fn with_word(cpu: Registers, cells: &mut Cells, row: u8) -> Registers
     requires le_row { (2 ≤ row) × (row < 6) }
     ensures { Follows 0x1A row cpu (lent cells) result }
 {
@@ -50,8 +49,7 @@ fn with_word(cpu: Registers, cells: &mut [u16], row: u8) -> Registers
 }
 
 // MOVW d,YA
-fn store_ya(cpu: Registers, cells: &mut [u16]) -> Registers
-    requires { Laid cells.old }
+fn store_ya(cpu: Registers, cells: &mut Cells) -> Registers
     ensures { Follows 0x1A 6 cpu (lent cells) result }
 {
     let byte = operands::fetch(cpu, cells);
@@ -61,8 +59,7 @@ fn store_ya(cpu: Registers, cells: &mut [u16]) -> Registers
 }
 
 // MOV d,d
-fn direct_to_direct(cpu: Registers, cells: &mut [u16]) -> Registers
-    requires { Laid cells.old }
+fn direct_to_direct(cpu: Registers, cells: &mut Cells) -> Registers
     ensures { Follows 0x1A 7 cpu (lent cells) result }
 {
     let from = operands::d_off(cpu, cells, 0);
@@ -73,8 +70,7 @@ fn direct_to_direct(cpu: Registers, cells: &mut [u16]) -> Registers
     next.past()
 }
 
-pub fn column_1a(cpu: Registers, cells: &mut [u16], row: u8) -> Registers
-    requires laid { Laid cells.old }
+pub fn column_1a(cpu: Registers, cells: &mut Cells, row: u8) -> Registers
     requires row_bound { row < 8 }
     ensures { Follows 0x1A row cpu (lent cells) result }
 {

@@ -1,11 +1,7 @@
 -- The bits of one cell, as numbers: the byte below 256, the read mark at 256, the stored mark at 512.
 -- Assumes nothing.
-use Prim.Native.Nat.{ℕ, ◌+◌, ◌*◌, ◌/◌, ◌%◌, ◌<◌}
-use mathlib.Core.Path.{◌≡◌, refl}
-use mathlib.Core.Bool.{Bool, true, false, cond}
-use mathlib.Core.Logic.{◌≢◌}
-use native.Mathlib.Omega.{arith}
-use lib.Dec.{eqb}
+use Rattle.std.proofs.Common.{◌≡◌, ◌≢◌, ℕ, ◌+◌, ◌*◌, ◌/◌, ◌%◌, ◌<◌, Bool, true, false, cond, eqb, refl, arith}
+use Rattle.std.specs.Int.{from_bool}
 
 -- A cell without marks whose read mark is set has that mark,
 pub read_set : (cell : ℕ) → cell / 256 % 4 ≡ 0 → (cell + 256) / 256 % 2 ≡ 1
@@ -42,18 +38,16 @@ module _ (cell byte read stored : ℕ) (small : byte < 256) (r : read < 2) (w : 
   pub its_stored : cell / 512 % 2 ≡ stored
   its_stored = let high : cell / 512 ≡ stored = omega arith in omega arith
 
--- A mark as a number, and its value as a bit of a cell.
-abbrev pub digit : Bool → ℕ
-digit b = cond b 1 0
+-- A mark as a number.
+pub mark_small : (b : Bool) → from_bool b < 2
+mark_small true = omega arith
+mark_small false = omega arith
 
-pub digit_small : (b : Bool) → digit b < 2
-digit_small true = omega arith
-digit_small false = omega arith
+pub mark_test : (b : Bool) → eqb (from_bool b) 1 ≡ b
+mark_test true = refl
+mark_test false = refl
 
-pub digit_test : (b : Bool) → eqb (digit b) 1 ≡ b
-digit_test true = refl
-digit_test false = refl
-
-pub digit_value : (b : Bool) (value : ℕ) → cond b value 0 ≡ digit b * value
-digit_value true value = omega arith
-digit_value false value = omega arith
+-- Its value as a bit of a cell.
+pub mark_value : (b : Bool) (value : ℕ) → cond b value 0 ≡ from_bool b * value
+mark_value true value = omega arith
+mark_value false value = omega arith

@@ -1,18 +1,10 @@
 -- What a row of cells stands for: a cell holds its address's byte and marks, and a row in which every cell holds those of a world stands
 -- for that world. So one more mark in a cell is one more mark in the world's map.
 -- Assumes nothing.
-use Prim.Native.Nat.{ℕ, ◌+◌, ◌*◌, ◌/◌, ◌%◌, ◌<◌}
-use mathlib.Core.Path.{◌≡◌, refl, ap, sym, ◌∙◌}
-use mathlib.Core.Bool.{Bool, true, cond}
-use mathlib.Core.List.{List}
-use mathlib.Core.Logic.{◌≢◌}
-use native.Mathlib.Omega.{arith}
-use native.Mathlib.Decide.{ℕ_discrete}
-use native.Mathlib.Nat.{zero-add}
-use lib.Dec.{eqb}
-use lib.ListN.{length, get_or, set, length-set}
-use lib.Seq.{get_or-set_same, get_or-set_other, set-get_or}
-use borrow.Author.Tests.{ne_eqb}
+use Rattle.std.proofs.Common.{◌≡◌, ◌≢◌, ℕ, ◌+◌, ◌*◌, ◌/◌, ◌%◌, ◌<◌, true, cond, List, eqb, length, get_or, set, length-set, get_or-set_same, get_or-set_other, refl, sym, ◌∙◌, arith, ne_eqb}
+use Rattle.std.proofs.Math.Decide.{ℕ_discrete}
+use Rattle.std.proofs.lemmas.List.{set-get_or}
+use Rattle.std.specs.Int.{from_bool}
 use Rattle.laws.specs.Bytes.{Bytes}
 use Rattle.marks.specs.Maps.{is_marked}
 use Rattle.marks.proofs.Laws.{length_marked, bytes_marked}
@@ -23,7 +15,7 @@ use Rattle.cells.proofs.Values.{length_values, value_at, are_values}
 use Rattle.cells.proofs.Marks.{map_marks, map_bytes, map_is}
 use Rattle.cells.proofs.Marks.{marked_here, marked_elsewhere, unless_here, unless_elsewhere, unless_length, unless_bytes}
 use Rattle.cells.proofs.Bits.{read_set, stored_clear, still_clear, only_read, its_byte, its_read, its_stored}
-use Rattle.cells.proofs.Bits.{digit, digit_small, digit_test, digit_value}
+use Rattle.cells.proofs.Bits.{mark_small, mark_test, mark_value}
 
 -- A cell holds the byte and the marks that a world has at an address.
 pub record Holds (cell : ℕ) (w : World) (k : ℕ) : Type 0 where
@@ -41,9 +33,9 @@ module _ (cells : List ℕ) where
   pub sized : Sized (world_of cells)
   unfolding world_of
   sized = record {
-    memory = length_values 65536 0 (byte_of cells);
-    reads = length_values 8192 0 (eight_of 8 cells);
-    writes = length_values 8192 0 (eight_of 9 cells);
+    memory = length_values 65536 (byte_of cells);
+    reads = length_values 8192 (eight_of 8 cells);
+    writes = length_values 8192 (eight_of 9 cells);
   }
 
   -- its maps are of bytes;
@@ -55,14 +47,14 @@ module _ (cells : List ℕ) where
   pub holds : (k : ℕ) → k < 65536 → Holds (get_or cells k 0) (world_of cells) k
   unfolding world_of
   holds k h = record {
-    byte = sym (value_at 65536 0 (byte_of cells) k h ∙ ap (byte_of cells) (zero-add k));
+    byte = sym (value_at 65536 (byte_of cells) k h);
     read = sym (map_marks 8 cells k h);
     stored = sym (map_marks 9 cells k h);
   }
 
   -- Memory and maps that are filled from the cells are what they stand for.
-  pub filled : {memory reads writes : List ℕ} → memory ≡ values 65536 0 (byte_of cells) → reads ≡ values 8192 0 (eight_of 8 cells)
-      → writes ≡ values 8192 0 (eight_of 9 cells) → world memory reads writes ≡ world_of cells
+  pub filled : {memory reads writes : List ℕ} → memory ≡ values 65536 (byte_of cells) → reads ≡ values 8192 (eight_of 8 cells)
+      → writes ≡ values 8192 (eight_of 9 cells) → world memory reads writes ≡ world_of cells
   unfolding world_of
   filled m r w = rw (m, r, w)
 
@@ -197,26 +189,21 @@ module _ (memory reads writes : List ℕ) where
   abbrev pub cell_of : ℕ → ℕ
   cell_of k = get_or memory k 0 + cond (is_marked reads k) 256 0 + cond (is_marked writes k) 512 0
 
-  -- It is put together so.
-  pub cell_made : (k : ℕ) {read stored : ℕ} {r w : Bool} → r ≡ is_marked reads k → w ≡ is_marked writes k → read ≡ cond r 256 0
-      → stored ≡ cond w 512 0 → get_or memory k 0 + read + stored ≡ cell_of k
-  cell_made k e f g h = rw (g, h, e, f)
-
   -- Cells that are made of a world's bytes and marks stand for it.
-  pub laid_out : (cells : List ℕ) → cells ≡ values 65536 0 cell_of → Sized (world memory reads writes) → Bytes memory → Bytes reads
+  pub laid_out : (cells : List ℕ) → ((k : ℕ) → k < 65536 → get_or cells k 0 ≡ cell_of k) → Sized (world memory reads writes) → Bytes memory → Bytes reads
       → Bytes writes → world_of cells ≡ world memory reads writes
-  laid_out cells e size bytes r w =
+  laid_out cells each size bytes r w =
       world_is cells (world memory reads writes) size (record { reads = r; writes = w })
-      (λ k h. rw (e, value_at 65536 0 cell_of k h, zero-add) (cell_holds k))
+      (λ k h. rw (each k h) (cell_holds k))
     where
       cell_holds : (k : ℕ) → Holds (cell_of k) (world memory reads writes) k
       cell_holds k =
           let byte = get_or memory k 0 in
           let r = is_marked reads k in
           let w = is_marked writes k in
-          let is : cell_of k ≡ byte + digit r * 256 + digit w * 512 = rw (digit_value r 256, digit_value w 512) in
+          let is : cell_of k ≡ byte + from_bool r * 256 + from_bool w * 512 = rw (mark_value r 256, mark_value w 512) in
           record {
-            byte = its_byte (cell_of k) byte (digit r) (digit w) (bytes k) (digit_small r) (digit_small w) is;
-            read = rw (its_read (cell_of k) byte (digit r) (digit w) (bytes k) (digit_small r) (digit_small w) is) (digit_test r);
-            stored = rw (its_stored (cell_of k) byte (digit r) (digit w) (bytes k) (digit_small r) (digit_small w) is) (digit_test w);
+            byte = its_byte (cell_of k) byte (from_bool r) (from_bool w) (bytes k) (mark_small r) (mark_small w) is;
+            read = rw (its_read (cell_of k) byte (from_bool r) (from_bool w) (bytes k) (mark_small r) (mark_small w) is) (mark_test r);
+            stored = rw (its_stored (cell_of k) byte (from_bool r) (from_bool w) (bytes k) (mark_small r) (mark_small w) is) (mark_test w);
           }

@@ -1,34 +1,18 @@
 -- A map is told by its marks. The map of one bit of the cells marks the addresses whose cells have that bit. To mark an address marks it,
 -- and no other.
 -- Assumes nothing.
-use Prim.Native.Nat.{ℕ, zero, suc, ◌+◌, ◌*◌, ◌/◌, ◌%◌, ◌^◌, ◌<◌}
-use mathlib.Core.Path.{◌≡◌, refl, sym, ◌∙◌}
-use mathlib.Core.Bool.{Bool, true, false, cond}
-use mathlib.Core.List.{List}
-use mathlib.Core.Logic.{◌≢◌}
-use native.Mathlib.Nat.{zero-add, add-zero, div-one}
-use native.Mathlib.Omega.{arith}
-use lib.Dec.{eqb}
-use lib.ListN.{length, get_or}
-use lib.Pow.{shr-shr}
-use lib.Seq.{ext_get_or}
-use borrow.Author.Tests.{eq-eqb, ne_eqb}
+use Rattle.std.proofs.Common.{◌≡◌, ◌≢◌, ℕ, zero, suc, ◌+◌, ◌-◌, ◌*◌, ◌/◌, ◌%◌, ◌^◌, ◌<◌, Bool, true, false, cond, List, eqb, length, get_or, refl, sym, ◌∙◌, arith, eq-eqb, ne_eqb}
+use Rattle.std.proofs.Math.Decide.{ℕ_discrete}
+use Rattle.std.proofs.Math.Seq.{ext_get_or}
+use Rattle.std.specs.Int.{bit_at}
+use Rattle.std.proofs.lemmas.Nat.Bits.{same_from_bits_below, bit_at_lowest, bit_at_cat_low, bit_at_cat_high}
 use Rattle.laws.specs.Bytes.{Bytes}
 use Rattle.marks.specs.Maps.{is_marked, marked, marked_unless}
 use Rattle.marks.proofs.Laws.{marked_is, length_marked, bytes_marked}
-use Rattle.cells.specs.Cells.{mark_of, eight_of, values}
+use Rattle.cells.specs.Cells.{mark_of, marks_of, eight_of, values}
 use Rattle.cells.proofs.Values.{length_values, value_at, values_below}
 
 -- ---- a map is told by its marks
-
--- Two numbers of d bits that agree in each bit are one number.
-same_number : (d x y : ℕ) → x < 2 ^ d → y < 2 ^ d → ((j : ℕ) → j < d → x / 2 ^ j % 2 ≡ y / 2 ^ j % 2) → x ≡ y
-same_number zero x y g h e = omega arith
-same_number (suc d) x y g h e =
-    let lowest : x % 2 ≡ y % 2 = simp div-one at (e 0 (omega arith)) in
-    let higher : x / 2 ≡ y / 2 =
-    same_number d (x / 2) (y / 2) (omega arith) (omega arith) (λ j q. rw (shr-shr x 1 j, shr-shr y 1 j) (e (1 + j) (omega arith))) in
-    omega arith
 
 -- Two bits that pass the test of a mark alike are one bit.
 same_bit : (x y : ℕ) → x < 2 → y < 2 → eqb x 1 ≡ eqb y 1 → x ≡ y
@@ -42,7 +26,7 @@ same_bit x y g h e = by_test x g ∙ rw e (sym (by_test y h))
 -- Two maps of 8,192 bytes that mark the same addresses are one map.
 pub same_map : (m n : List ℕ) → length m ≡ 8192 → length n ≡ 8192 → Bytes m → Bytes n
     → ((k : ℕ) → k < 65536 → is_marked m k ≡ is_marked n k) → m ≡ n
-same_map m n s t p q e = ext_get_or 0 m n (s ∙ sym t) (λ i h. same_number 8 _ _ (p i) (q i) (λ j g. bits i j (omega arith) g))
+same_map m n s t p q e = ext_get_or 0 m n (s ∙ sym t) (λ i h. same_from_bits_below 8 _ _ (p i) (q i) (λ j g. bits i j (omega arith) g))
   where
     bits : (i j : ℕ) → i < 8192 → j < 8 → get_or m i 0 / 2 ^ j % 2 ≡ get_or n i 0 / 2 ^ j % 2
     bits i j h g =
@@ -52,42 +36,47 @@ same_map m n s t p q e = ext_get_or 0 m n (s ∙ sym t) (λ i h. same_number 8 _
 
 -- ---- the map of one bit of the cells
 
--- Eight numbers below 2 that are put together as one byte are that byte's bits.
-module _ (m : ℕ → ℕ) (a : ℕ) (m0 : m a < 2) (m1 : m (a + 1) < 2) (m2 : m (a + 2) < 2) (m3 : m (a + 3) < 2) (m4 : m (a + 4) < 2)
-    (m5 : m (a + 5) < 2) (m6 : m (a + 6) < 2) (m7 : m (a + 7) < 2) where
-  bit_of_eight : (j : ℕ) → j < 8
-      → (m a + m (a + 1) * 2 + m (a + 2) * 4 + m (a + 3) * 8 + (m (a + 4) + m (a + 5) * 2 + m (a + 6) * 4 + m (a + 7) * 8) * 16) / 2 ^ j % 2
-      ≡ m (a + j)
-  bit_of_eight zero h = rw add-zero (omega arith)
-  bit_of_eight (suc zero) h = omega arith
-  bit_of_eight (suc (suc zero)) h = omega arith
-  bit_of_eight (suc (suc (suc zero))) h = omega arith
-  bit_of_eight (suc (suc (suc (suc zero)))) h = omega arith
-  bit_of_eight (suc (suc (suc (suc (suc zero))))) h = omega arith
-  bit_of_eight (suc (suc (suc (suc (suc (suc zero)))))) h = omega arith
-  bit_of_eight (suc (suc (suc (suc (suc (suc (suc zero))))))) h = omega arith
-  bit_of_eight (suc (suc (suc (suc (suc (suc (suc (suc j)))))))) h = absurd (omega arith)
-
 module _ (bit : ℕ) (cells : List ℕ) where
+  -- n marks are a number of n bits,
+  pub marks_small : (at n : ℕ) → marks_of bit cells at n < 2 ^ n
+  marks_small at zero = omega arith
+  marks_small at (suc n) = let mark : mark_of bit cells (at + n) < 2 = omega arith in room (mark_of bit cells (at + n)) mark (marks_small at n)
+    where
+      room : (mark : ℕ) {marks : ℕ} → mark < 2 → marks < 2 ^ n → mark * 2 ^ n + marks < 2 ^ suc n
+      room zero h g = omega arith
+      room (suc zero) h g = omega arith
+      room (suc (suc mark)) h g = absurd (omega arith)
+
+  -- whose bits they are.
+  bit_of_marks : (at n j : ℕ) → j < n → bit_at (marks_of bit cells at n) j ≡ mark_of bit cells (at + j)
+  bit_of_marks at zero j h = absurd (omega arith)
+  bit_of_marks at (suc n) j h = go (ℕ_discrete j n) (λ (below : j < n). bit_of_marks at n j below)
+    where
+      go : Dec (j ≡ n) → (j < n → bit_at (marks_of bit cells at n) j ≡ mark_of bit cells (at + j))
+          → bit_at (marks_of bit cells at (suc n)) j ≡ mark_of bit cells (at + j)
+      go (yes e) below =
+          let first : bit_at (mark_of bit cells (at + n)) (n - n) ≡ mark_of bit cells (at + n) =
+          let none : n - n ≡ 0 = omega arith in rw (none, bit_at_lowest (mark_of bit cells (at + n))) (omega arith) in
+          rw e (bit_at_cat_high (mark_of bit cells (at + n)) n (marks_of bit cells at n) n (marks_small at n) (omega arith) ∙ first)
+      go (no other) below =
+          bit_at_cat_low (mark_of bit cells (at + n)) n (marks_of bit cells at n) j (omega arith) ∙ below (omega arith)
+
   -- The map marks an address where the cell has the bit.
-  pub map_marks : (k : ℕ) → k < 65536 → is_marked (values 8192 0 (eight_of bit cells)) k ≡ eqb (mark_of bit cells k) 1
+  pub map_marks : (k : ℕ) → k < 65536 → is_marked (values 8192 (eight_of bit cells)) k ≡ eqb (mark_of bit cells k) 1
   map_marks k h =
       let whole : k / 8 * 8 + k % 8 ≡ k = omega arith in
-      let small : (i : ℕ) → mark_of bit cells i < 2 = λ i. omega arith in
-      let mark =
-      bit_of_eight (mark_of bit cells) (k / 8 * 8) (small _) (small _) (small _) (small _) (small _) (small _) (small _) (small _) (k % 8)
-      (omega arith) in
-      rw (value_at 8192 0 (eight_of bit cells) (k / 8) (omega arith), zero-add, mark, whole)
+      let mark = bit_of_marks (k / 8 * 8) 8 (k % 8) (omega arith) in
+      rw (value_at 8192 (eight_of bit cells) (k / 8) (omega arith), mark, whole)
 
   -- It is a map of bytes.
-  pub map_bytes : Bytes (values 8192 0 (eight_of bit cells))
-  map_bytes = values_below 8192 0 (eight_of bit cells) 256 (omega arith) (λ i. omega arith)
+  pub map_bytes : Bytes (values 8192 (eight_of bit cells))
+  map_bytes = values_below 8192 (eight_of bit cells) 256 (omega arith) (λ i. marks_small (i * 8) 8)
 
   -- So a map of bytes that marks those addresses is that map.
   pub map_is : (map : List ℕ) → length map ≡ 8192 → Bytes map → ((k : ℕ) → k < 65536 → eqb (mark_of bit cells k) 1 ≡ is_marked map k)
-      → values 8192 0 (eight_of bit cells) ≡ map
+      → values 8192 (eight_of bit cells) ≡ map
   map_is map size bytes e =
-      same_map _ map (length_values 8192 0 (eight_of bit cells)) size map_bytes bytes (λ k h. map_marks k h ∙ e k h)
+      same_map _ map (length_values 8192 (eight_of bit cells)) size map_bytes bytes (λ k h. map_marks k h ∙ e k h)
 
 -- ---- one address more marked
 

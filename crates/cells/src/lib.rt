@@ -7,13 +7,15 @@ mod rows;
 
 ghost use Rattle.laws.specs.Lent.{lent};
 ghost use Rattle.memory.specs.Access.{ask, put};
-ghost use Rattle.cells.specs.Cells.{Laid, Performs};
+ghost use Rattle.cells.specs.Cells.{Performs};
 
 pub use rows::{lay_out, put_back};
 
+// A row: a cell for each address.
+pub type Cells = [u16; 65536];
+
 // The byte at an address, which is marked as read unless it has been stored to before.
-pub fn read(cells: &mut [u16], at: u16) -> u8
-    requires { Laid cells.old }
+pub fn read(cells: &mut Cells, at: u16) -> u8
     ensures { Performs (ask at) (lent cells) result }
 {
     let k = at as usize;
@@ -26,8 +28,7 @@ pub fn read(cells: &mut [u16], at: u16) -> u8
 }
 
 // Stores a byte at an address.
-pub fn store(cells: &mut [u16], at: u16, byte: u8)
-    requires { Laid cells.old }
+pub fn store(cells: &mut Cells, at: u16, byte: u8)
     ensures { Performs (put at byte) (lent cells) tt }
 {
     let k = at as usize;

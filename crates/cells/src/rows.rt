@@ -1,89 +1,66 @@
 // The way in and the way out: memory and maps laid out as cells, and cells put back into memory and maps.
-ghost use Rattle.std.specs.Prelude.{◌<◌, ◌≤◌, ◌≡◌, cond, length};
+ghost use Rattle.std.specs.Prelude.{◌<◌, ◌≤◌, ◌≡◌};
 ghost use Rattle.laws.specs.Lent.{shared, lent};
-ghost use Rattle.memory.specs.Promises.{before, after, Ready};
-ghost use Rattle.cells.specs.Cells.{byte_of, mark_of, eight_of, values, world_of, Laid};
+ghost use Rattle.memory.specs.Promises.{before, after};
+ghost use Rattle.cells.specs.Cells.{byte_of, mark_of, eight_of, values, world_of};
 
-// A mark as the bit of a cell.
-fn bit_if(marked: bool, value: u16) -> u16
-    ensures { (result ≡ cond marked value 0) × (result ≤ value) }
-{
-    if marked { value } else { 0 }
-}
+use crate::Cells;
+use marks::Map;
+use memory::Memory;
 
 // A cell for each address.
-pub fn lay_out(cells: &mut [u16], memory: &[u8], reads: &[u8], writes: &[u8])
-    requires laid { Laid cells.old }
-    requires ready { Ready memory.now reads.now writes.now }
+pub fn lay_out(cells: &mut Cells, memory: &Memory, reads: &Map, writes: &Map)
     ensures { world_of cells.new ≡ before (shared memory) (shared reads) (shared writes) }
 {
-    let mut k: usize = 0;
-    while k < 65536 {
+    for (k, cell) in cells.iter_mut().enumerate() {
         let at = k as u16;
-        let read = bit_if(marks::is_marked(reads, at), 256);
-        let stored = bit_if(marks::is_marked(writes, at), 512);
-        cells[k] = memory[k] as u16 + read + stored;
-        k += 1;
+        let read = if marks::is_marked(reads, at) { 256 } else { 0 };
+        let stored = if marks::is_marked(writes, at) { 512 } else { 0 };
+        *cell = memory[k] as u16 + read + stored;
     }
 }
 
 // The low byte of each cell.
-fn put_bytes(cells: &[u16], memory: &mut [u8])
-    requires laid { Laid cells.now }
-    requires memory_len { length memory.old ≡ 65536 }
-    ensures { memory.new ≡ values 65536 0 (byte_of cells.now) }
+fn put_bytes(cells: &Cells, memory: &mut Memory)
+    ensures { memory.new ≡ values 65536 (byte_of cells.now) }
 {
-    let mut k: usize = 0;
-    while k < 65536 {
-        memory[k] = (cells[k] % 256) as u8;
-        k += 1;
+    for (k, byte) in memory.iter_mut().enumerate() {
+        *byte = (cells[k] % 256) as u8;
     }
 }
 
 // One bit of a cell.
-fn mark_of(cells: &[u16], bit: u16, k: usize) -> u8
-    requires laid { Laid cells.now }
-    requires bit_bound { (bit < 16) × (k < 65536) }
+fn mark_of(cells: &Cells, bit: u16, k: usize) -> u8
+    requires { (bit < 16) × (k < 65536) }
     ensures { (result ≡ mark_of bit cells.now k) × (result ≤ 1) }
 {
     ((cells[k] >> bit) % 2) as u8
 }
 
 // The marks of eight addresses.
-fn eight(cells: &[u16], bit: u16, i: usize) -> u8
-    requires laid { Laid cells.now }
-    requires bit_bound { (bit < 16) × (i < 8192) }
+fn eight(cells: &Cells, bit: u16, i: usize) -> u8
+    requires { (bit < 16) × (i < 8192) }
     ensures { result ≡ eight_of bit cells.now i }
 {
-    let k = i * 8;
-    let low = mark_of(cells, bit, k)
-        + mark_of(cells, bit, k + 1) * 2
-        + mark_of(cells, bit, k + 2) * 4
-        + mark_of(cells, bit, k + 3) * 8;
-    let high = mark_of(cells, bit, k + 4)
-        + mark_of(cells, bit, k + 5) * 2
-        + mark_of(cells, bit, k + 6) * 4
-        + mark_of(cells, bit, k + 7) * 8;
-    low + high * 16
+    let mut marks: u8 = 0;
+    for j in 0..8 {
+        marks += mark_of(cells, bit, i * 8 + j) << j;
+    }
+    marks
 }
 
 // The marks that one bit of the cells holds.
-fn put_marks(cells: &[u16], bit: u16, map: &mut [u8])
-    requires laid { Laid cells.now }
-    requires bit_bound { (bit < 16) × (length map.old ≡ 8192) }
-    ensures { map.new ≡ values 8192 0 (eight_of bit cells.now) }
+fn put_marks(cells: &Cells, bit: u16, map: &mut Map)
+    requires { bit < 16 }
+    ensures { map.new ≡ values 8192 (eight_of bit cells.now) }
 {
-    let mut i: usize = 0;
-    while i < 8192 {
-        map[i] = eight(cells, bit, i);
-        i += 1;
+    for (i, byte) in map.iter_mut().enumerate() {
+        *byte = eight(cells, bit, i);
     }
 }
 
 // Memory and maps of the cells.
-pub fn put_back(cells: &[u16], memory: &mut [u8], reads: &mut [u8], writes: &mut [u8])
-    requires laid { Laid cells.now }
-    requires ready { Ready memory.old reads.old writes.old }
+pub fn put_back(cells: &Cells, memory: &mut Memory, reads: &mut Map, writes: &mut Map)
     ensures { after (lent memory) (lent reads) (lent writes) ≡ world_of cells.now }
 {
     put_bytes(cells, memory);

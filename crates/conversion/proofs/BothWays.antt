@@ -1,21 +1,20 @@
 -- A record that goes into an SPC file and back is the record, and a file that goes into a record and back is the file.
 -- Assumes nothing.
-use Rattle.std.specs.Prelude.{ℕ, ◌<◌, ◌≤◌, ◌≡◌, length, get_or, take}
-use Rattle.std.proofs.Common.{sym, subst, ◌∙◌, arith, lit≤, length-append, length-drop, length-take-le, take_at, drop_at, get_or-take}
-use Rattle.std.proofs.Math.Path.{refl, ap}
-use mathlib.Core.List.{List, ◌++◌}
+use Rattle.std.specs.Prelude.{ℕ, ◌<◌, ◌≤◌, ◌≡◌, refl, List, ◌++◌, Result, Ok, length, get_or, take}
+use Rattle.std.proofs.Common.{sym, ap, subst, ◌∙◌, arith, lit≤, length-append, length-drop, length-take-le, take_at, drop_at, get_or-take}
 use Rattle.std.proofs.Math.Decide.{dec_le}
 use Rattle.std.proofs.Math.ListN.{drop, take-append-drop, get_or-eq_default}
 use Rattle.laws.specs.Bytes.{Bytes}
 use Rattle.laws.specs.Filled.{Filled, filled}
+use Rattle.refusals.specs.declared.Refusal.{Refusal}
 use Rattle.processor.specs.declared.Processor.{Processor}
 use Rattle.state.specs.Registers.{registers_of, bytes_of}
 use Rattle.state.specs.Theorems.{record_to_bytes_and_back, bytes_to_record_and_back}
 use Rattle.spc_file.specs.Layout.{record_in, memory_in, laid}
 use Rattle.spc_file.specs.Refused.{not_refused, answers}
-use Rattle.spc_file.specs.Theorems.{Accepted, accepted, memory_size}
+use Rattle.spc_file.specs.Theorems.{Accepted, memory_size}
 use Rattle.spc_file.specs.Theorems.{same_file, same_registers, same_memory}
-use Rattle.conversion.specs.Unnamed.{unnamed, EachDefault}
+use Rattle.conversion.specs.Unnamed.{EachDefault}
 use Rattle.conversion.specs.Calls.{to_file_refusal, new_file, file_of, file_from_record, to_record_refusal, record_of, record_from_file}
 use Rattle.conversion.specs.Theorems.{Plain, new_plain, plain_alike, plain_still, takes_record, took_record, takes_file, took_file}
 
@@ -71,23 +70,25 @@ module _ (file : List ℕ) where
   only_then a e = (subst (λ (f : List ℕ). Plain f) e (file_plain (record_of file) (record_size a))).defaults
 
 -- A record that went into a file comes back, into whatever record is lent.
-pub record_to_file_and_back : (state file into : List ℕ) → Bytes state → (file_from_record state file).answer ≡ 0 → length into ≡ 65543
-    → record_from_file (file_from_record state file).left into ≡ filled 0 state
+pub record_to_file_and_back : (state file into : List ℕ) → Bytes state → (file_from_record state file).answer ≡ Ok tt → length into ≡ 65543
+    → record_from_file (file_from_record state file).left into ≡ filled (Ok tt) state
 record_to_file_and_back state file into bytes e size =
     let z = sym (answers (to_file_refusal state file) (file_of state) file) ∙ e in
     let whole = (took_record state file z).0 in
     let accepted = takes_file (file_of state) into size (file_plain state whole) in
-    ap (λ (f : Filled ℕ). record_from_file f.left into) (not_refused (to_file_refusal state file) (file_of state) file z)
+    ap (λ (f : Filled (Result Unit Refusal)). record_from_file f.left into)
+    (not_refused (to_file_refusal state file) (file_of state) file z)
     ∙ not_refused (to_record_refusal (file_of state) into) (record_of (file_of state)) into accepted
-    ∙ ap (λ (l : List ℕ). filled 0 l) (record_again state whole bytes)
+    ∙ ap (λ (l : List ℕ). filled (Ok tt) l) (record_again state whole bytes)
 
 -- A file that went into a record comes back, into whatever file is lent.
-pub file_to_record_and_back : (file state into : List ℕ) → Bytes file → (record_from_file file state).answer ≡ 0 → length into ≡ 66048
-    → file_from_record (record_from_file file state).left into ≡ filled 0 file
+pub file_to_record_and_back : (file state into : List ℕ) → Bytes file → (record_from_file file state).answer ≡ Ok tt → length into ≡ 66048
+    → file_from_record (record_from_file file state).left into ≡ filled (Ok tt) file
 file_to_record_and_back file state into bytes e size =
     let z = sym (answers (to_record_refusal file state) (record_of file) state) ∙ e in
     let plain = (took_file file state z).1 in
     let accepted = takes_record (record_of file) into (record_size file plain.accepted) size in
-    ap (λ (f : Filled ℕ). file_from_record f.left into) (not_refused (to_record_refusal file state) (record_of file) state z)
+    ap (λ (f : Filled (Result Unit Refusal)). file_from_record f.left into)
+    (not_refused (to_record_refusal file state) (record_of file) state z)
     ∙ not_refused (to_file_refusal (record_of file) into) (file_of (record_of file)) into accepted
-    ∙ ap (λ (l : List ℕ). filled 0 l) (file_again file bytes plain)
+    ∙ ap (λ (l : List ℕ). filled (Ok tt) l) (file_again file bytes plain)

@@ -1,2 +1,2 @@
-pub mod Visits
+pub mod Stretches
 pub mod BothWays

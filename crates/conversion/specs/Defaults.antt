@@ -1,5 +1,4 @@
--- What holds of unnamed bytes and of files with their defaults: for the theorems, and for the code, which goes from one unnamed byte to the
--- next.
+-- What holds of unnamed bytes and of files with their defaults: for the theorems, and for the code, which goes by their stretches.
 -- Assumes nothing.
 use Rattle.std.specs.Prelude.{ℕ, zero, suc, ◌+◌, ◌-◌, ◌<◌, ◌≤◌, ◌≡◌, refl, Bool, cond, length, get_or, set, take, leb}
 use Rattle.std.proofs.Common.{sym, ap, ◌∙◌, zero-add, add-zero, suc-add, add-suc, arith, length-take, ext_get_or, get_or-take, le-leb}
@@ -8,6 +7,7 @@ use mathlib.Core.List.{List, [], ◌∷◌, List-discrete}
 use Rattle.std.proofs.Math.Logic.{if_pos, if_neg}
 use Rattle.std.proofs.Math.Decide.{ℕ_discrete, dec_le}
 use Rattle.std.proofs.lemmas.Bool.{lt-leb}
+use Rattle.std.proofs.lemmas.Bool.Decides.{nat_tests}
 use Rattle.conversion.specs.Unnamed.{Place, named, unnamed, first_four, place_at, Unnamed}
 use Rattle.conversion.specs.Unnamed.{or_default, defaults_from, with_defaults, all_default, EachDefault}
 
@@ -34,14 +34,8 @@ each_stretch P at signature four registers zeros memory last =
 
 -- Where none of the three stretches of unnamed bytes is, there is a name.
 pub named_at : (at : ℕ) → (33 ≤ at → at ≤ 36 → ⊥) → (44 ≤ at → at ≤ 255 → ⊥) → (65792 ≤ at → ⊥) → place_at at ≡ named
-named_at at four zeros last =
-    each_stretch (λ p. p ≡ named) at
-    (λ a. refl)
-    (λ a b. absurd (four a b))
-    (λ a b. refl)
-    (λ a b. absurd (zeros a b))
-    (λ a b. refl)
-    (λ a. absurd (last a))
+unfolding place_at
+named_at at four zeros last = grind (arith, nat_tests)
 
 -- Outside of signature, record and memory a byte is unnamed.
 pub unnamed_at : (at : ℕ) → (at ≤ 32 → ⊥) → (37 ≤ at → at ≤ 43 → ⊥) → (256 ≤ at → at ≤ 65791 → ⊥) → Unnamed (place_at at)
@@ -55,14 +49,7 @@ unnamed_at at signature registers memory =
     (λ a. record { default = 0; is = refl })
 
 pub not_both : {default : ℕ} → named ≡ unnamed default → ⊥
-not_both e = let z : ◌≡◌ {A = ℕ} 0 1 = cc in omega arith
-
--- `next` is the next unnamed byte behind another, or the end of a file
-pub record Next (at next : ℕ) : Type 0 where
-  pub later : at < next
-  pub within : next ≤ 66048
-  pub between : (i : ℕ) → at < i → i < next → place_at i ≡ named
-  pub there : next < 66048 → Unnamed (place_at next)
+not_both e = cc
 
 -- ---- a file with its defaults
 
@@ -79,7 +66,7 @@ defaulted from (x ∷ xs) zero h = rw add-zero
 defaulted from (x ∷ xs) (suc i) h = rw (add-suc, ← suc-add) (defaulted (suc from) xs i (omega arith))
 
 module _ (file : List ℕ) (at : ℕ) (h : at < length file) where
-  in_place : get_or (with_defaults file) at 0 ≡ or_default (place_at at) (get_or file at 0)
+  pub in_place : get_or (with_defaults file) at 0 ≡ or_default (place_at at) (get_or file at 0)
   in_place = rw zero-add at (defaulted 0 file at h)
 
   pub unnamed_byte : {default : ℕ} → place_at at ≡ unnamed default → get_or (with_defaults file) at 0 ≡ default
@@ -101,10 +88,6 @@ set_unnamed file at byte u = go 0 file at (rw zero-add u.is)
         ap (λ (l : List ℕ). or_default (place_at from) x ∷ l) (go (suc from) xs i (rw (suc-add, ← add-suc) e))
 
 -- ---- which files have them
-
--- the unnamed bytes before an offset have their defaults; before a file's end, this is `EachDefault`
-abbrev pub Settled : ℕ → List ℕ → Type 0
-Settled n file = (at default : ℕ) → at < n → place_at at ≡ unnamed default → get_or file at 0 ≡ default
 
 module _ (file : List ℕ) where
   -- Such a file is the one with its defaults,
@@ -138,7 +121,7 @@ module _ (file : List ℕ) where
   -- and begins as before.
   pub begins_as_before : take 33 (with_defaults file) ≡ take 33 file
   begins_as_before =
-      ext_get_or 0 (take 33 (with_defaults file)) (take 33 file) (rw (length-take, length-take, length_defaults))
+      ext_get_or 0 (take 33 (with_defaults file)) (take 33 file) (rw (length-take 33 (with_defaults file), length-take 33 file, length_defaults))
       (λ i h. let size = length-take 33 (with_defaults file) in go i (omega arith) (omega (arith, length_defaults 0 file)))
     where
       go : (i : ℕ) → i < 33 → i < length file → get_or (take 33 (with_defaults file)) i 0 ≡ get_or (take 33 file) i 0

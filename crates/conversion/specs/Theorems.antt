@@ -1,13 +1,14 @@
 -- What holds of the two ways between state records and SPC files: which bytes are unnamed, what is accepted, and that nothing is lost.
 -- The one hypothesis is that files and records hold bytes, which the code's types give.
 -- Assumes nothing.
-use Rattle.std.specs.Prelude.{ℕ, ◌<◌, ◌≤◌, Bool, true, false, ◌≡◌, length, get_or, replicate}
-use Rattle.std.proofs.Common.{true≢false, sym, ◌∙◌, ⊎_elim, inl, inr, arith, length-append, take_at, get_or-take}
-use Rattle.std.proofs.Math.Path.{refl, ap}
-use mathlib.Core.List.{List, ◌++◌, List-discrete}
+use Rattle.std.specs.Prelude.{ℕ, ◌<◌, ◌≤◌, ◌≡◌, refl, Bool, true, false, List, ◌++◌, Result, Ok, Err, length, get_or, replicate}
+use Rattle.std.proofs.Common.{true≢false, sym, ap, ◌∙◌, ⊎_elim, inl, inr, arith, length-append, take_at, get_or-take}
+use mathlib.Core.List.{List-discrete}
 use Rattle.std.proofs.Math.Decide.{ℕ_discrete, dec_le}
 use Rattle.std.proofs.lemmas.List.{length-replicate}
 use borrow.Author.Tests.{eq-eqb, ne_eqb}
+use Rattle.refusals.specs.declared.Refusal.{Refusal}
+use Rattle.refusals.specs.declared.Refusal.TheVariants.{Unnamed as not_default}
 use Rattle.processor.specs.declared.Processor.{Processor}
 use Rattle.spc_file.specs.Layout.{signature, laid}
 use Rattle.spc_file.specs.Calls.{refusal_of}
@@ -110,38 +111,34 @@ plain_still {file} p cpu memory size = record {
 
 module _ (state file : List ℕ) where
   -- A record is accepted if it has its length and the file has its own,
-  pub takes_record : length state ≡ 65543 → length file ≡ 66048 → to_file_refusal state file ≡ 0
-  unfolding to_file_refusal
+  pub takes_record : length state ≡ 65543 → length file ≡ 66048 → to_file_refusal state file ≡ Ok tt
   takes_record r f = rw (eq-eqb _ _ r, eq-eqb _ _ f)
 
   -- and only then.
-  pub took_record : to_file_refusal state file ≡ 0 → (length state ≡ 65543) × (length file ≡ 66048)
-  unfolding to_file_refusal
+  pub took_record : to_file_refusal state file ≡ Ok tt → (length state ≡ 65543) × (length file ≡ 66048)
   took_record e = go (ℕ_discrete (length state) 65543) (ℕ_discrete (length file) 66048)
     where
       go : Dec (length state ≡ 65543) → Dec (length file ≡ 66048) → (length state ≡ 65543) × (length file ≡ 66048)
       go (yes r) (yes f) = (r, f)
-      go (yes r) (no n) = absurd (omega (arith, rw (eq-eqb _ _ r, ne_eqb _ _ n) at e))
-      go (no n) f = absurd (omega (arith, rw (ne_eqb _ _ n) at e))
+      go (yes r) (no n) = let other = rw (eq-eqb _ _ r, ne_eqb _ _ n) at e in cc
+      go (no n) f = let other = rw (ne_eqb _ _ n) at e in cc
 
 module _ (file state : List ℕ) (size : length state ≡ 65543) where
-  -- Past 6 to 8, a file is accepted if every unnamed byte has its default,
-  pub takes_file : Plain file → to_record_refusal file state ≡ 0
-  unfolding to_record_refusal
-  takes_file p = rw (eq-eqb _ _ size, eq-eqb _ _ (accepts p.accepted), default_each file p.defaults)
+  -- Where the record has its length and reading accepts the file, it is accepted if every unnamed byte has its default,
+  pub takes_file : Plain file → to_record_refusal file state ≡ Ok tt
+  takes_file p = rw (eq-eqb _ _ size, accepts p.accepted, default_each file p.defaults)
 
-  -- and is refused with 10 if not;
-  pub refuses_file : Accepted file → (EachDefault file → ⊥) → to_record_refusal file state ≡ 10
-  unfolding to_record_refusal
-  refuses_file a n = rw (eq-eqb _ _ size, eq-eqb _ _ (accepts a), not_each file n)
+  -- and refused for an unnamed byte if not;
+  pub refuses_file : Accepted file → (EachDefault file → ⊥) → to_record_refusal file state ≡ Err not_default
+  refuses_file a n = rw (eq-eqb _ _ size, accepts a, not_each file n)
 
 -- accepted, it is such a file, and the lent record has its length.
-pub took_file : (file state : List ℕ) → to_record_refusal file state ≡ 0 → (length state ≡ 65543) × Plain file
-unfolding to_record_refusal
-took_file file state e = go (ℕ_discrete (length state) 65543) (ℕ_discrete (refusal_of file) 0) (all_default file) refl
+pub took_file : (file state : List ℕ) → to_record_refusal file state ≡ Ok tt → (length state ≡ 65543) × Plain file
+took_file file state e = go (ℕ_discrete (length state) 65543) (refusal_of file) refl (all_default file) refl
   where
-    go : Dec (length state ≡ 65543) → Dec (refusal_of file ≡ 0) → (all : Bool) → all_default file ≡ all → (length state ≡ 65543) × Plain file
-    go (yes r) (yes z) true d = (r, record { accepted = accepted z; defaults = each_default file d })
-    go (yes r) (yes z) false d = absurd (omega (arith, rw (eq-eqb _ _ r, eq-eqb _ _ z, d) at e))
-    go (yes r) (no n) all d = absurd (n (rw (eq-eqb _ _ r, ne_eqb _ _ n) at e))
-    go (no n) z all d = absurd (omega (arith, rw (ne_eqb _ _ n) at e))
+    go : Dec (length state ≡ 65543) → (r : Result Unit Refusal) → refusal_of file ≡ r → (all : Bool) → all_default file ≡ all
+        → (length state ≡ 65543) × Plain file
+    go (yes s) (Ok x) z true d = (s, record { accepted = accepted z; defaults = each_default file d })
+    go (yes s) (Ok x) z false d = let other = rw (eq-eqb _ _ s, z, d) at e in cc
+    go (yes s) (Err refusal) z all d = let other = rw (eq-eqb _ _ s, z) at e in cc
+    go (no n) r z all d = let other = rw (ne_eqb _ _ n) at e in cc

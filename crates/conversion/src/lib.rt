@@ -7,42 +7,39 @@ ghost use Rattle.laws.specs.Lent.{lent};
 ghost use Rattle.laws.specs.Filled.{Fills};
 ghost use Rattle.conversion.specs.Calls.{file_from_record, record_from_file};
 
-// Makes a file of a record: every byte of the lent file is written. Answers the refusal: 6 a record that is not 65,543 bytes, 7 a file that
-// is not 66,048 bytes, or 0. Refused, the file stays as it was.
-pub fn file_from_record(file: &mut [u8], record: &[u8]) -> u8
+use refusals::Refusal;
+use spc_file::File;
+
+// Makes a file of a record: every byte of the lent file is written. Refused are a record that is not 65,543 bytes, and then a file that is
+// not 66,048 bytes; the file then stays as it was.
+pub fn file_from_record(file: &mut [u8], record: &[u8]) -> Result<(), Refusal>
     ensures { Fills (file_from_record «record».now) (lent file) result }
 {
     if record.len() != 65543 {
-        return 6;
+        return Err(Refusal::Form);
     }
-    if file.len() != 66048 {
-        return 7;
-    }
-    let signature = spc_file::SIGNATURE;
-    file[..33].copy_from_slice(&signature);
+    let file: &mut File = file.as_mut_array().ok_or(Refusal::File)?;
+    file[..33].copy_from_slice(&spc_file::SIGNATURE);
     unnamed::set_defaults(file);
-    let cpu = state::registers(&record[..7]);
-    spc_file::write(file, cpu, &record[7..])
+    let (registers, memory) = record.split_at(7);
+    spc_file::write(file, state::registers(registers), memory)
 }
 
-// Makes a record of a file that holds nothing else. Answers the refusal: 6 a lent record that is not 65,543 bytes, 7 and 8 as for reading a
-// file, 10 an unnamed byte that is not its default, or 0. Refused, the record stays as it was.
-pub fn record_from_file(record: &mut [u8], file: &[u8]) -> u8
+// Makes a record of a file that holds nothing else. Refused are a lent record that is not 65,543 bytes, then what reading a file refuses,
+// and then an unnamed byte that is not its default; the record then stays as it was.
+pub fn record_from_file(record: &mut [u8], file: &[u8]) -> Result<(), Refusal>
     ensures { Fills (record_from_file file.now) (lent «record») result }
 {
     if record.len() != 65543 {
-        return 6;
+        return Err(Refusal::Form);
     }
-    let read = spc_file::read(file);
-    let refusal = read.refusal;
-    if refusal != 0 {
-        return refusal;
-    }
+    let file: &File = file.as_array().ok_or(Refusal::File)?;
+    let cpu = spc_file::read(file)?;
     if !unnamed::has_defaults(file) {
-        return 10;
+        return Err(Refusal::Unnamed);
     }
-    let cpu = read.cpu;
-    state::set_registers(&mut record[..7], cpu);
-    record[7..].copy_from_slice(spc_file::memory(file));
-    0
+    let (registers, memory) = record.split_at_mut(7);
+    state::set_registers(registers, cpu);
+    memory.copy_from_slice(spc_file::memory(file));
+    Ok(())
 }

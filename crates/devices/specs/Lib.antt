@@ -1,3 +1,4 @@
 pub mod Timers
 pub mod Devices
+pub mod Lengths
 pub mod Theorems

@@ -3,9 +3,10 @@
 
 mod timer;
 
-ghost use Rattle.std.specs.Prelude.{◌≡◌, ◌+◌, ◌≤◌, length};
-ghost use Rattle.devices.specs.Devices.{timer_in, started, after_reads, controlled, aimed_all, after_stores, passed};
+ghost use Rattle.std.specs.Prelude.{◌≡◌, ◌+◌, ◌<◌, ◌≤◌};
+ghost use Rattle.devices.specs.Devices.{bit, timer_in, started, after_reads, controlled, aimed_all, after_stores, passed};
 
+use memory::Memory;
 pub use timer::Timer;
 
 // The order of the fields is the cheapest that was found for the step of a song (docs/SPEED.md).
@@ -16,47 +17,48 @@ pub struct Devices {
     // whether a step has read where the boot ROM was
     pub rom: bool,
     // what the console sent last
-    pub port0: u8,
-    pub port1: u8,
-    pub port2: u8,
-    pub port3: u8,
+    pub ports: [u8; 4],
     // The device addresses that steps have read, those that they have stored to, and those that the last step has stored to: the bit of
     // value 2^j stands for 00F0 + j.
     pub read: u16,
     pub stored: u16,
     pub last: u16,
-    pub timer0: Timer,
-    pub timer1: Timer,
-    pub timer2: Timer,
+    pub timers: [Timer; 3],
 }
 
-// A timer as an image leaves it.
-fn timer_in(on: bool, target: u8, count: u8) -> Timer
-    ensures { result ≡ timer_in on target count }
+// Whether the bit of value 2^j is set.
+fn has(n: u16, j: usize) -> bool
+    requires { j < 16 }
+    ensures { result ≡ bit n j }
+{
+    (n >> j) % 2 == 1
+}
+
+// Timer k as an image leaves it.
+fn timer_in(k: usize, memory: &Memory) -> Timer
+    requires { k < 3 }
+    ensures { result ≡ timer_in k memory.now }
 {
     Timer {
-        on,
-        target,
+        on: has(memory[0xF1] as u16, k),
+        target: memory[0xFA + k],
         ticks: 0,
-        count: count % 16,
+        count: memory[0xFD + k] % 16,
     }
 }
 
 impl Devices {
     // The devices as an image holds them, when its playing begins.
-    pub fn start(memory: &[u8]) -> Devices
-        requires { length memory.now ≡ 65536 }
+    pub fn start(memory: &Memory) -> Devices
         ensures { result ≡ started memory.now }
     {
-        let control = memory[0xF1];
         Devices {
-            timer0: timer_in(control % 2 == 1, memory[0xFA], memory[0xFD]),
-            timer1: timer_in(control / 2 % 2 == 1, memory[0xFB], memory[0xFE]),
-            timer2: timer_in(control / 4 % 2 == 1, memory[0xFC], memory[0xFF]),
-            port0: memory[0xF4],
-            port1: memory[0xF5],
-            port2: memory[0xF6],
-            port3: memory[0xF7],
+            timers: [
+                timer_in(0, memory),
+                timer_in(1, memory),
+                timer_in(2, memory),
+            ],
+            ports: [memory[0xF4], memory[0xF5], memory[0xF6], memory[0xF7]],
             cycles: 0,
             read: 0,
             stored: 0,
@@ -72,80 +74,60 @@ impl Devices {
         if read == 0 {
             return self;
         }
-        let t0 = self.timer0;
-        let t1 = self.timer1;
-        let t2 = self.timer2;
-        if read / 8192 % 2 == 1 {
-            self.timer0 = t0.clear();
+        for k in 0..3 {
+            if has(read, 13 + k) {
+                self.timers[k] = self.timers[k].clear();
+            }
         }
-        if read / 16384 % 2 == 1 {
-            self.timer1 = t1.clear();
-        }
-        if read / 32768 % 2 == 1 {
-            self.timer2 = t2.clear();
-        }
-        self.read = self.read | read;
+        self.read |= read;
         self
     }
 
     // A store to 00F1: bits 0 to 2 turn the timers on and off; bit 4 clears what is read at 00F4 and 00F5, bit 5 at 00F6 and 00F7.
-    fn control(mut self, byte: u8) -> Devices
+    fn control(mut self, byte: u16) -> Devices
         ensures { result ≡ controlled byte self }
     {
-        let t0 = self.timer0;
-        let t1 = self.timer1;
-        let t2 = self.timer2;
-        self.timer0 = t0.switch(byte % 2 == 1);
-        self.timer1 = t1.switch(byte / 2 % 2 == 1);
-        self.timer2 = t2.switch(byte / 4 % 2 == 1);
-        if byte / 16 % 2 == 1 {
-            self.port0 = 0;
-            self.port1 = 0;
+        for k in 0..3 {
+            self.timers[k] = self.timers[k].switch(has(byte, k));
         }
-        if byte / 32 % 2 == 1 {
-            self.port2 = 0;
-            self.port3 = 0;
+        if has(byte, 4) {
+            self.ports[0] = 0;
+            self.ports[1] = 0;
+        }
+        if has(byte, 5) {
+            self.ports[2] = 0;
+            self.ports[3] = 0;
         }
         self
     }
 
     // Stores to 00FA, 00FB and 00FC: targets.
-    fn aim(mut self, stored: u16, memory: &[u8]) -> Devices
-        requires { length memory.now ≡ 65536 }
+    fn aim(mut self, stored: u16, memory: &Memory) -> Devices
         ensures { result ≡ aimed_all stored memory.now self }
     {
-        let t0 = self.timer0;
-        let t1 = self.timer1;
-        let t2 = self.timer2;
-        if stored / 1024 % 2 == 1 {
-            self.timer0 = t0.aim(memory[0xFA]);
-        }
-        if stored / 2048 % 2 == 1 {
-            self.timer1 = t1.aim(memory[0xFB]);
-        }
-        if stored / 4096 % 2 == 1 {
-            self.timer2 = t2.aim(memory[0xFC]);
+        for k in 0..3 {
+            if has(stored, 10 + k) {
+                self.timers[k] = self.timers[k].aim(memory[0xFA + k]);
+            }
         }
         self
     }
 
     // After a step that has stored to these device addresses what stands in memory there now.
-    pub fn take_stores(self, stored: u16, memory: &[u8]) -> Devices
-        requires { length memory.now ≡ 65536 }
+    pub fn take_stores(mut self, stored: u16, memory: &Memory) -> Devices
         ensures { result ≡ after_stores stored memory.now self }
     {
-        let mut next = self;
         if stored == 0 {
-            next.last = 0;
-            return next;
+            self.last = 0;
+            return self;
         }
-        if stored / 2 % 2 == 1 {
-            next = next.control(memory[0xF1]);
+        if has(stored, 1) {
+            self = self.control(memory[0xF1] as u16);
         }
-        next = next.aim(stored, memory);
-        next.stored = next.stored | stored;
-        next.last = stored;
-        next
+        self = self.aim(stored, memory);
+        self.stored |= stored;
+        self.last = stored;
+        self
     }
 
     // Cycles pass, fewer than sixteen: timers 0 and 1 tick where a multiple of 128 is reached, timer 2 where one of 16 is.
@@ -155,20 +137,15 @@ impl Devices {
         ensures { result ≡ passed cycles self }
     {
         let before = self.cycles;
-        let after = before + cycles as u32;
-        if before / 16 == after / 16 {
-            self.cycles = after;
+        self.cycles += cycles as u32;
+        if before / 16 == self.cycles / 16 {
             return self;
         }
-        let t2 = self.timer2;
-        self.timer2 = t2.tick();
-        if before / 128 != after / 128 {
-            let t0 = self.timer0;
-            let t1 = self.timer1;
-            self.timer0 = t0.tick();
-            self.timer1 = t1.tick();
+        self.timers[2] = self.timers[2].tick();
+        if before / 128 != self.cycles / 128 {
+            self.timers[0] = self.timers[0].tick();
+            self.timers[1] = self.timers[1].tick();
         }
-        self.cycles = after;
         self
     }
 }

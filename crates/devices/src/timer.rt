@@ -14,23 +14,23 @@ pub struct Timer {
 
 impl Timer {
     // A tick. The eight bits that count ticks come to a target of 0 at the 256th.
+    #[tactic(auto, unfolding(crate::specs::Timers::ticked))]
     pub fn tick(mut self) -> Timer
         ensures { result ≡ ticked self }
     {
         if !self.on {
             return self;
         }
-        let ticks = std::num::wrapping_add_u8(self.ticks, 1);
-        if ticks == self.target {
+        self.ticks = self.ticks.wrapping_add(1);
+        if self.ticks == self.target {
             self.ticks = 0;
-            self.count = (self.count % 16 + 1) % 16;
-        } else {
-            self.ticks = ticks;
+            self.count = self.count.wrapping_add(1) % 16;
         }
         self
     }
 
     // Turned on or off. A timer that was off starts from zero.
+    #[tactic(auto, unfolding(crate::specs::Timers::switched))]
     pub fn switch(mut self, on: bool) -> Timer
         ensures { result ≡ switched on self }
     {

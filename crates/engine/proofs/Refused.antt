@@ -1,16 +1,13 @@
--- What the tests of a call say of the definition's refusal, and of its answer.
+-- What the tests of a call say of the definition's refusal.
 -- Assumes nothing.
-use Rattle.std.specs.Prelude.{ℕ, ◌≡◌, refl, Bool, true, false, cond, length, eqb, Option, Some, None, Result, Ok, Err}
-use Rattle.std.proofs.Common.{ap, sym, ◌∙◌, eq-eqb, ne_eqb, arith}
+use Rattle.std.specs.Prelude.{ℕ, ◌≡◌, refl, Bool, true, false, cond, length, Some, None, Result, Ok, Err}
+use Rattle.std.proofs.Common.{eq-eqb, ne_eqb, arith}
 use Rattle.refusals.specs.declared.Refusal.{Refusal}
 use Rattle.refusals.specs.declared.Refusal.TheVariants as reason
-use Rattle.memory.specs.World.{World, Sized}
-use Rattle.memory.specs.Access.{Outcome, outcome}
+use Rattle.memory.specs.World.{World}
 use Rattle.editions.specs.Editions.{is_edition, edition_of, edition_named}
 use Rattle.editions.specs.declared.Edition.{Edition}
-use Rattle.processor.specs.declared.Processor.{Processor}
-use Rattle.engine.specs.Entry.{told, refusal_of, run_of, run_answer}
-use Rattle.engine.specs.declared.Ran.{Ran}
+use Rattle.engine.specs.Entry.{refusal_of}
 
 -- ---- the edition that a number names
 
@@ -23,11 +20,14 @@ pub named_err : (b : Bool) (x : Edition) (e : Refusal) → ◌≡◌ {A = Result
 named_err true x e h = absurd (grind (arith, h))
 named_err false x e h = (refl, grind (arith, h))
 
--- ---- the answer
+pub edition_is : (number : ℕ) {edition : Edition} → Ok edition ≡ edition_named number → edition ≡ edition_of number
+edition_is number {edition} h = (named_ok (is_edition number) (edition_of number) edition h).1
 
-module _ (number budget : ℕ) (cpu : Processor) (w : World) where
+-- ---- the refusal
+
+module _ (number : ℕ) (w : World) where
   -- no edition
-  pub no_edition : {e : Refusal} → Err e ≡ edition_named number → outcome (Err e) w ≡ run_answer number budget cpu w
+  pub no_edition : {e : Refusal} → Err e ≡ edition_named number → refusal_of number w ≡ Some e
   unfolding refusal_of
   no_edition h = let n = named_err (is_edition number) (edition_of number) _ h in rw (n.0, n.1)
 
@@ -36,24 +36,19 @@ module _ (number budget : ℕ) (cpu : Processor) (w : World) where
     named = (named_ok (is_edition number) (edition_of number) edition h).0
 
     -- the first length that is another
-    pub no_memory : (length w.memory ≡ 65536 → ⊥) → outcome (Err reason.Memory) w ≡ run_answer number budget cpu w
+    pub no_memory : (length w.memory ≡ 65536 → ⊥) → refusal_of number w ≡ Some reason.Memory
     unfolding refusal_of
     no_memory m = rw (named, ne_eqb _ _ m)
 
-    pub no_reads : length w.memory ≡ 65536 → (length w.reads ≡ 8192 → ⊥) → outcome (Err reason.Map) w ≡ run_answer number budget cpu w
+    pub no_reads : length w.memory ≡ 65536 → (length w.reads ≡ 8192 → ⊥) → refusal_of number w ≡ Some reason.Map
     unfolding refusal_of
     no_reads m r = rw (named, eq-eqb _ _ m, ne_eqb _ _ r)
 
-    pub no_writes : length w.memory ≡ 65536 → length w.reads ≡ 8192 → (length w.writes ≡ 8192 → ⊥)
-        → outcome (Err reason.Map) w ≡ run_answer number budget cpu w
+    pub no_writes : length w.memory ≡ 65536 → length w.reads ≡ 8192 → (length w.writes ≡ 8192 → ⊥) → refusal_of number w ≡ Some reason.Map
     unfolding refusal_of
     no_writes m r s = rw (named, eq-eqb _ _ m, eq-eqb _ _ r, ne_eqb _ _ s)
 
     -- all are right
-    pub accepts : length w.memory ≡ 65536 → length w.reads ≡ 8192 → length w.writes ≡ 8192
-        → {r : Ran} {left : World} → outcome r left ≡ told (run_of edition budget cpu w) → outcome (Ok r) left ≡ run_answer number budget cpu w
+    pub accepts : length w.memory ≡ 65536 → length w.reads ≡ 8192 → length w.writes ≡ 8192 → refusal_of number w ≡ None
     unfolding refusal_of
-    accepts m r s e =
-        let it = (named_ok (is_edition number) (edition_of number) edition h).1 in
-        rw (named, eq-eqb _ _ m, eq-eqb _ _ r, eq-eqb _ _ s, ← it)
-        (ap (λ (o : Outcome World Ran). record { result = Ok o.result; left = o.left }) e)
+    accepts m r s = rw (named, eq-eqb _ _ m, eq-eqb _ _ r, eq-eqb _ _ s)

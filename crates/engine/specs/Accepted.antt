@@ -1,6 +1,6 @@
 -- Which calls of a step and of a run are accepted.
 -- Assumes nothing.
-use Rattle.std.specs.Prelude.{ℕ, Bool, cond, length, Option, Some, None}
+use Rattle.std.specs.Prelude.{ℕ, Bool, cond, length, Some, None}
 use Rattle.std.proofs.Math.Path.{◌≡◌, refl}
 use Rattle.std.proofs.Math.Bool.{true, false}
 use Rattle.std.proofs.Common.{sym}
@@ -9,7 +9,6 @@ use Rattle.std.proofs.lemmas.Option.{none-some}
 use borrow.Author.Tests.{eq-eqb, eqb-true}
 use Rattle.memory.specs.World.{World, Sized}
 use Rattle.editions.specs.Editions.{is_edition}
-use Rattle.refusals.specs.declared.Refusal.{Refusal}
 use Rattle.refusals.specs.declared.Refusal.TheVariants as reason
 use Rattle.engine.specs.Entry.{refusal_of}
 

@@ -40,7 +40,11 @@ pub fn take_steps(cpu: Processor, edition: Edition, bus: &mut Bus, budget: u32) 
 fn take_long(cpu: Processor, edition: Edition, bus: &mut Bus, budget: u32) -> Ran
     ensures { Answers (λ w. told (run_of edition budget cpu w)) bus.old bus.new result }
 {
-    take_steps(cpu, edition, bus, budget)
+    let taken = long_runs::run(cpu, edition, bus.memory, bus.reads, bus.writes, budget);
+    Ran {
+        cpu: taken.cpu,
+        steps: taken.steps,
+    }
 }
 
 // A run on memory and maps that have their lengths, the way that is cheaper for its budget.

@@ -1,16 +1,16 @@
 // The phases of an instruction: a transaction. What it reads comes first, then what it makes of that, then the stores, and last a
 // taken displacement.
-ghost use Rattle.memory.specs.Promises.{Performs};
+ghost use Rattle.memory.specs.Promises.{Reads, Puts, Performs};
 ghost use Rattle.instructions.specs.Step.{begin_of, commit_of, branch_of, finish_of, step_of};
 
 use editions::Edition;
 use instructions::{Begun, Effect, Stores};
-use memory::Bus;
+use memory::{Bus, Reading, Storing};
 use processor::Processor;
 
 // The opcode, and what its instruction reads before it stores.
-fn begin(cpu: Processor, edition: Edition, bus: &mut Bus) -> Begun
-    ensures { Performs (begin_of edition cpu) bus.old bus.new result }
+fn begin(cpu: Processor, edition: Edition, bus: &mut Reading) -> Begun
+    ensures { Reads (begin_of edition cpu) bus.old bus.new result }
 {
     let fetched = modes::fetch_u8(cpu, bus);
     let operands = gather::gather(fetched.cpu, edition, bus, fetched.byte);
@@ -21,8 +21,8 @@ fn begin(cpu: Processor, edition: Edition, bus: &mut Bus) -> Begun
 }
 
 // The stores, in order.
-fn commit(cpu: Processor, bus: &mut Bus, stores: Stores) -> Processor
-    ensures { Performs (commit_of stores cpu) bus.old bus.new result }
+fn commit(cpu: Processor, bus: &mut Storing, stores: Stores) -> Processor
+    ensures { Puts (commit_of stores cpu) bus.old bus.new result }
 {
     match stores {
         Stores::Nothing => cpu,
@@ -42,8 +42,8 @@ fn commit(cpu: Processor, bus: &mut Bus, stores: Stores) -> Processor
 }
 
 // BRK's stores: the return PC, then a status byte.
-fn interrupt(cpu: Processor, bus: &mut Bus, byte: u8, target: u16) -> Processor
-    ensures { Performs (commit_of (Stores.Break byte target) cpu) bus.old bus.new result }
+fn interrupt(cpu: Processor, bus: &mut Storing, byte: u8, target: u16) -> Processor
+    ensures { Puts (commit_of (Stores.Break byte target) cpu) bus.old bus.new result }
 {
     let pushed = modes::push_to_stack_u16(cpu, bus, cpu.pc);
     let mut next = modes::push_to_stack_u8(pushed, bus, byte);
@@ -52,8 +52,8 @@ fn interrupt(cpu: Processor, bus: &mut Bus, byte: u8, target: u16) -> Processor
 }
 
 // A taken displacement.
-fn branch(cpu: Processor, bus: &mut Bus, taken: bool) -> Processor
-    ensures { Performs (branch_of taken cpu) bus.old bus.new result }
+fn branch(cpu: Processor, bus: &mut Reading, taken: bool) -> Processor
+    ensures { Reads (branch_of taken cpu) bus.old bus.new result }
 {
     if taken {
         return modes::branch_imm(cpu, bus);
@@ -65,15 +65,30 @@ fn branch(cpu: Processor, bus: &mut Bus, taken: bool) -> Processor
 fn finish(made: Effect, bus: &mut Bus) -> Processor
     ensures { Performs (finish_of made) bus.old bus.new result }
 {
-    let stored = commit(made.cpu, bus, made.stores);
-    branch(stored, bus, made.taken)
+    let mut storing = Storing {
+        memory: bus.memory,
+        reads: bus.reads,
+        writes: bus.writes,
+    };
+    let stored = commit(made.cpu, &mut storing, made.stores);
+    let mut reading = Reading {
+        memory: bus.memory,
+        reads: bus.reads,
+        writes: bus.writes,
+    };
+    branch(stored, &mut reading, made.taken)
 }
 
 // A whole instruction.
 pub fn instruction(cpu: Processor, edition: Edition, bus: &mut Bus) -> Processor
     ensures { Performs (step_of edition cpu) bus.old bus.new result }
 {
-    let begun = begin(cpu, edition, bus);
+    let mut reading = Reading {
+        memory: bus.memory,
+        reads: bus.reads,
+        writes: bus.writes,
+    };
+    let begun = begin(cpu, edition, &mut reading);
     let made = effects::effect_of(begun.opcode, begun.operands);
     finish(made, bus)
 }

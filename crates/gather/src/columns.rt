@@ -5,11 +5,11 @@ ghost use Rattle.gather.specs.Columns.{RowPerforms};
 
 use crate::{bytes, places, several, ways};
 use instructions::Operands;
-use memory::Bus;
+use memory::Reading;
 use processor::Processor;
 
 // d,d; in the last two rows MOV !a,X and MOV X,!a.
-pub fn column_09(cpu: Processor, bus: &mut Bus, op: u8) -> Operands
+pub fn column_09(cpu: Processor, bus: &mut Reading, op: u8) -> Operands
     requires { bit_and op 0x1F ≡ 0x09 }
     ensures { RowPerforms op cpu bus.old bus.new result }
 {
@@ -20,18 +20,20 @@ pub fn column_09(cpu: Processor, bus: &mut Bus, op: u8) -> Operands
 }
 
 // Immediates; pushes and moves between registers, which read nothing.
-pub fn column_0d(cpu: Processor, bus: &mut Bus, op: u8) -> Operands
+pub fn column_0d(cpu: Processor, bus: &mut Reading, op: u8) -> Operands
     requires { bit_and op 0x1F ≡ 0x0D }
     ensures { RowPerforms op cpu bus.old bus.new result }
 {
     match op {
-        opcodes::MOV_Y_IMM | opcodes::CMP_Y_IMM | opcodes::MOV_X_IMM => bytes::byte_only(modes::fetch_u8(cpu, bus)),
+        opcodes::MOV_Y_IMM | opcodes::CMP_Y_IMM | opcodes::MOV_X_IMM => bytes::byte_only(
+            modes::fetch_u8(cpu, bus),
+        ),
         _ => bytes::implied(cpu),
     }
 }
 
 // TSET1 and TCLR1; CBNE and DBNZ; pops.
-pub fn column_0e(cpu: Processor, bus: &mut Bus, op: u8) -> Operands
+pub fn column_0e(cpu: Processor, bus: &mut Reading, op: u8) -> Operands
     requires { bit_and op 0x1F ≡ 0x0E }
     ensures { RowPerforms op cpu bus.old bus.new result }
 {
@@ -43,7 +45,7 @@ pub fn column_0e(cpu: Processor, bus: &mut Bus, op: u8) -> Operands
 }
 
 // BRK, PCALL and RET; MOV d,#i and MOV (X)+,A; the rest reads nothing.
-pub fn column_0f(cpu: Processor, bus: &mut Bus, op: u8) -> Operands
+pub fn column_0f(cpu: Processor, bus: &mut Reading, op: u8) -> Operands
     requires { bit_and op 0x1F ≡ 0x0F }
     ensures { RowPerforms op cpu bus.old bus.new result }
 {
@@ -58,7 +60,7 @@ pub fn column_0f(cpu: Processor, bus: &mut Bus, op: u8) -> Operands
 }
 
 // d,#i; in the last two rows MOV d,X and MOV X,d.
-pub fn column_18(cpu: Processor, bus: &mut Bus, op: u8) -> Operands
+pub fn column_18(cpu: Processor, bus: &mut Reading, op: u8) -> Operands
     requires { bit_and op 0x1F ≡ 0x18 }
     ensures { RowPerforms op cpu bus.old bus.new result }
 {
@@ -69,7 +71,7 @@ pub fn column_18(cpu: Processor, bus: &mut Bus, op: u8) -> Operands
 }
 
 // (X),(Y); in the last two rows MOV d+Y,X and MOV X,d+Y.
-pub fn column_19(cpu: Processor, bus: &mut Bus, op: u8) -> Operands
+pub fn column_19(cpu: Processor, bus: &mut Reading, op: u8) -> Operands
     requires { bit_and op 0x1F ≡ 0x19 }
     ensures { RowPerforms op cpu bus.old bus.new result }
 {
@@ -80,7 +82,7 @@ pub fn column_19(cpu: Processor, bus: &mut Bus, op: u8) -> Operands
 }
 
 // Words of the direct page; MOV d,d.
-pub fn column_1a(cpu: Processor, bus: &mut Bus, op: u8) -> Operands
+pub fn column_1a(cpu: Processor, bus: &mut Reading, op: u8) -> Operands
     requires { bit_and op 0x1F ≡ 0x1A }
     ensures { RowPerforms op cpu bus.old bus.new result }
 {
@@ -92,7 +94,7 @@ pub fn column_1a(cpu: Processor, bus: &mut Bus, op: u8) -> Operands
 }
 
 // CMP of X and Y; CBNE d+X; the rest reads nothing.
-pub fn column_1e(cpu: Processor, bus: &mut Bus, op: u8) -> Operands
+pub fn column_1e(cpu: Processor, bus: &mut Reading, op: u8) -> Operands
     requires { bit_and op 0x1F ≡ 0x1E }
     ensures { RowPerforms op cpu bus.old bus.new result }
 {
@@ -105,7 +107,7 @@ pub fn column_1e(cpu: Processor, bus: &mut Bus, op: u8) -> Operands
 }
 
 // Jumps, CALL and RETI; MOV A,(X)+; the rest reads nothing.
-pub fn column_1f(cpu: Processor, bus: &mut Bus, op: u8) -> Operands
+pub fn column_1f(cpu: Processor, bus: &mut Reading, op: u8) -> Operands
     requires { bit_and op 0x1F ≡ 0x1F }
     ensures { RowPerforms op cpu bus.old bus.new result }
 {

@@ -7,19 +7,19 @@ mod places;
 mod several;
 mod ways;
 
-ghost use Rattle.memory.specs.Promises.{Performs};
+ghost use Rattle.memory.specs.Promises.{Reads};
 ghost use Rattle.instructions.specs.Gather.{gather_of};
 ghost use Rattle.instructions.specs.Rows.{row_of};
 
 use editions::Edition;
 use instructions::Operands;
-use memory::Bus;
+use memory::Reading;
 use processor::Processor;
 
 // What the opcode's row reads, with PC behind the opcode. The low five bits pick a column of the table; first come the columns whose rows
 // do not all read alike. Each column has an arm of its own, also where two do the same: a step is then cheaper (docs/SPEED.md).
-pub fn gather(cpu: Processor, edition: Edition, bus: &mut Bus, op: u8) -> Operands
-    ensures { Performs (gather_of edition (row_of op).mode op cpu) bus.old bus.new result }
+pub fn gather(cpu: Processor, edition: Edition, bus: &mut Reading, op: u8) -> Operands
+    ensures { Reads (gather_of edition (row_of op).mode op cpu) bus.old bus.new result }
 {
     match op & 0x1F {
         0x09 => columns::column_09(cpu, bus, op),

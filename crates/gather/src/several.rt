@@ -1,18 +1,18 @@
 // Modes that read more than one thing.
 ghost use Rattle.std.specs.Prelude.{◌^◌, ◌≤◌, ◌≡◌};
-ghost use Rattle.memory.specs.Promises.{Performs};
+ghost use Rattle.memory.specs.Promises.{Reads};
 ghost use Rattle.instructions.specs.Rows.Mode.{direct_direct, direct_to_direct, direct_immediate, immediate_to_direct, at_x_at_y, direct_word, to_direct_word, memory_bit};
 ghost use Rattle.instructions.specs.Gather.{both_loaded, source_loaded};
 ghost use Rattle.gather.specs.Columns.{plainly};
 
 use instructions::Operands;
-use memory::Bus;
+use memory::Reading;
 use modes::Addressed;
 use processor::Processor;
 
 // A source and a target, both read.
-fn load_both(found: Addressed, bus: &mut Bus, source: u16) -> Operands
-    ensures { Performs (both_loaded source found) bus.old bus.new result }
+fn load_both(found: Addressed, bus: &mut Reading, source: u16) -> Operands
+    ensures { Reads (both_loaded source found) bus.old bus.new result }
 {
     let low = bus.read(source);
     let high = bus.read(found.at);
@@ -26,8 +26,8 @@ fn load_both(found: Addressed, bus: &mut Bus, source: u16) -> Operands
 }
 
 // A target's address and a source that is read.
-fn load_source(found: Addressed, bus: &mut Bus, source: u16) -> Operands
-    ensures { Performs (source_loaded source found) bus.old bus.new result }
+fn load_source(found: Addressed, bus: &mut Reading, source: u16) -> Operands
+    ensures { Reads (source_loaded source found) bus.old bus.new result }
 {
     let low = bus.read(source);
     Operands {
@@ -40,8 +40,8 @@ fn load_source(found: Addressed, bus: &mut Bus, source: u16) -> Operands
 }
 
 // d,d: the source's operand byte comes first.
-pub fn direct_direct(cpu: Processor, bus: &mut Bus) -> Operands
-    ensures { Performs (plainly direct_direct cpu) bus.old bus.new result }
+pub fn direct_direct(cpu: Processor, bus: &mut Reading) -> Operands
+    ensures { Reads (plainly direct_direct cpu) bus.old bus.new result }
 {
     let source = modes::d(cpu, bus);
     let found = modes::d(source.cpu, bus);
@@ -49,8 +49,8 @@ pub fn direct_direct(cpu: Processor, bus: &mut Bus) -> Operands
 }
 
 // d,d for MOV, which does not read its target.
-pub fn direct_to_direct(cpu: Processor, bus: &mut Bus) -> Operands
-    ensures { Performs (plainly direct_to_direct cpu) bus.old bus.new result }
+pub fn direct_to_direct(cpu: Processor, bus: &mut Reading) -> Operands
+    ensures { Reads (plainly direct_to_direct cpu) bus.old bus.new result }
 {
     let source = modes::d(cpu, bus);
     let found = modes::d(source.cpu, bus);
@@ -58,8 +58,8 @@ pub fn direct_to_direct(cpu: Processor, bus: &mut Bus) -> Operands
 }
 
 // d,#i: the immediate comes first.
-pub fn direct_immediate(cpu: Processor, bus: &mut Bus) -> Operands
-    ensures { Performs (plainly direct_immediate cpu) bus.old bus.new result }
+pub fn direct_immediate(cpu: Processor, bus: &mut Reading) -> Operands
+    ensures { Reads (plainly direct_immediate cpu) bus.old bus.new result }
 {
     let immediate = modes::fetch_u8(cpu, bus);
     let found = modes::d(immediate.cpu, bus);
@@ -74,8 +74,8 @@ pub fn direct_immediate(cpu: Processor, bus: &mut Bus) -> Operands
 }
 
 // d,#i for MOV, which does not read its target.
-pub fn immediate_to_direct(cpu: Processor, bus: &mut Bus) -> Operands
-    ensures { Performs (plainly immediate_to_direct cpu) bus.old bus.new result }
+pub fn immediate_to_direct(cpu: Processor, bus: &mut Reading) -> Operands
+    ensures { Reads (plainly immediate_to_direct cpu) bus.old bus.new result }
 {
     let immediate = modes::fetch_u8(cpu, bus);
     let found = modes::d(immediate.cpu, bus);
@@ -89,16 +89,16 @@ pub fn immediate_to_direct(cpu: Processor, bus: &mut Bus) -> Operands
 }
 
 // (X),(Y): (Y) is the source.
-pub fn at_x_at_y(cpu: Processor, bus: &mut Bus) -> Operands
-    ensures { Performs (plainly at_x_at_y cpu) bus.old bus.new result }
+pub fn at_x_at_y(cpu: Processor, bus: &mut Reading) -> Operands
+    ensures { Reads (plainly at_x_at_y cpu) bus.old bus.new result }
 {
     let source = modes::iy(cpu);
     load_both(modes::ix(cpu), bus, source.at)
 }
 
 // A word of the direct page.
-pub fn direct_word(cpu: Processor, bus: &mut Bus) -> Operands
-    ensures { Performs (plainly direct_word cpu) bus.old bus.new result }
+pub fn direct_word(cpu: Processor, bus: &mut Reading) -> Operands
+    ensures { Reads (plainly direct_word cpu) bus.old bus.new result }
 {
     let found = modes::dw(cpu, bus);
     let low = bus.read(found.low);
@@ -113,8 +113,8 @@ pub fn direct_word(cpu: Processor, bus: &mut Bus) -> Operands
 }
 
 // The place of a word of the direct page.
-pub fn to_direct_word(cpu: Processor, bus: &mut Bus) -> Operands
-    ensures { Performs (plainly to_direct_word cpu) bus.old bus.new result }
+pub fn to_direct_word(cpu: Processor, bus: &mut Reading) -> Operands
+    ensures { Reads (plainly to_direct_word cpu) bus.old bus.new result }
 {
     let found = modes::dw(cpu, bus);
     Operands {
@@ -135,8 +135,8 @@ fn bit_value(bit: u8) -> u8
 }
 
 // A byte and one of its bits, by its value.
-pub fn memory_bit(cpu: Processor, bus: &mut Bus) -> Operands
-    ensures { Performs (plainly memory_bit cpu) bus.old bus.new result }
+pub fn memory_bit(cpu: Processor, bus: &mut Reading) -> Operands
+    ensures { Reads (plainly memory_bit cpu) bus.old bus.new result }
 {
     let found = modes::bit_operand(cpu, bus);
     let low = bus.read(found.at);

@@ -1,6 +1,7 @@
 -- One instruction's length and text, from its bytes.
 use Rattle.std.specs.Prelude.{ℕ, ◌+◌, Bool, true, cond, List, [], ◌∷◌, ◌++◌, length, ◌==◌, nat_lt}
 use Prim.Native.Char.{code}
+use Rattle.refusals.specs.declared.Refusal.TheVariants.{Operands}
 use Rattle.text.specs.Given.{Wanted, says, refuses}
 use Rattle.text.specs.Quoted.{text}
 use Rattle.opcode_data.specs.Data.{data_of}
@@ -46,8 +47,8 @@ abbrev pub is_cut : List ℕ → Bool
 is_cut [] = true
 is_cut (opcode ∷ operands) = nat_lt (length operands + 1) (length_of opcode)
 
--- Refusal 4 exactly if there are fewer bytes than the instruction has. Spare bytes are ignored.
+-- Refused exactly if there are fewer bytes than the instruction has. Spare bytes are ignored.
 abbrev pub listed_of : List ℕ → Wanted
-listed_of [] = refuses 4
+listed_of [] = refuses Operands
 listed_of (opcode ∷ operands) =
-    cond (is_cut (opcode ∷ operands)) (refuses 4) (says (instruction_text opcode operands))
+    cond (is_cut (opcode ∷ operands)) (refuses Operands) (says (instruction_text opcode operands))

@@ -32,7 +32,7 @@ short_line : (opcode : ℕ) → opcode < 256 → room_of opcode + 6 ≤ 18 * len
 unfolding data_of constants length_of
 short_line = most_below 256 (λ k. room_of k + 6) (λ k. 18 * length_of k) tt
 
-few_bytes : (opcode : ℕ) → opcode < 256 → length_of opcode ≤ 3
+pub few_bytes : (opcode : ℕ) → opcode < 256 → length_of opcode ≤ 3
 unfolding data_of constants length_of
 few_bytes = most_below 256 length_of (λ k. 3) tt
 

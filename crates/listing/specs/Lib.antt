@@ -4,3 +4,4 @@ pub mod Order
 pub mod Session
 pub mod Lengths
 pub mod Fits
+pub mod Turns

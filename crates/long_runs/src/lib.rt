@@ -2,34 +2,29 @@
 #![tactic(auto)]
 
 ghost use Rattle.laws.specs.Lent.{lent};
-ghost use Rattle.memory.specs.Promises.{Ready, Yields};
+ghost use Rattle.memory.specs.Promises.{Yields};
 ghost use Rattle.instructions.specs.Step.{step_of};
 ghost use Rattle.instructions.specs.Runs.{run_of};
 ghost use Rattle.registers.specs.Flat.{record_of};
-ghost use Rattle.cells.specs.Cells.{Laid, Performs};
+ghost use Rattle.cells.specs.Cells.{Performs};
 ghost use Rattle.long_runs.specs.Runs.{Ends, taken_of};
 
+use cells::Cells;
 use editions::Edition;
+use marks::Map;
+use memory::Memory;
 use processor::Processor;
 use registers::Registers;
 
-// The record that a run leaves, and how many steps it took.
+// The record that a run leaves, flat or not, and how many steps it took.
 #[derive(Drop)]
-pub struct Taken {
-    pub cpu: Processor,
-    pub steps: u32,
-}
-
-// The same, as the steps leave it.
-#[derive(Drop)]
-pub struct Ended {
-    pub cpu: Registers,
+pub struct Taken<R> {
+    pub cpu: R,
     pub steps: u32,
 }
 
 // One instruction: the opcode at PC, and what the row of its column does.
-fn instruction(cpu: Registers, edition: Edition, cells: &mut [u16]) -> Registers
-    requires { Laid cells.old }
+fn instruction(cpu: Registers, edition: Edition, cells: &mut Cells) -> Registers
     ensures { Performs (step_of edition (record_of cpu)) (lent cells) (record_of result) }
 {
     let opcode = operands::fetch(cpu, cells);
@@ -71,8 +66,12 @@ fn instruction(cpu: Registers, edition: Edition, cells: &mut [u16]) -> Registers
 }
 
 // Steps while budget is left and the record is awake.
-fn take_steps(start: Registers, edition: Edition, cells: &mut [u16], budget: u32) -> Ended
-    requires { Laid cells.old }
+fn take_steps(
+    start: Registers,
+    edition: Edition,
+    cells: &mut Cells,
+    budget: u32,
+) -> Taken<Registers>
     ensures { Ends edition budget start (lent cells) result }
 {
     let mut next = start;
@@ -97,7 +96,7 @@ fn take_steps(start: Registers, edition: Edition, cells: &mut [u16], budget: u32
         next = instruction(cpu, edition, cells);
         left -= 1;
     }
-    Ended {
+    Taken {
         cpu: next,
         steps: budget - left,
     }
@@ -107,21 +106,19 @@ fn take_steps(start: Registers, edition: Edition, cells: &mut [u16], budget: u32
 pub fn run(
     cpu: Processor,
     edition: Edition,
-    memory: &mut [u8],
-    reads: &mut [u8],
-    writes: &mut [u8],
+    memory: &mut Memory,
+    reads: &mut Map,
+    writes: &mut Map,
     budget: u32,
-) -> Taken
-    requires { Ready memory.old reads.old writes.old }
+) -> Taken<Processor>
     ensures { Yields (λ w. taken_of (run_of edition budget cpu w)) (lent memory) (lent reads) (lent writes) result }
 {
     let mut row = [0u16; 65536];
     cells::lay_out(&mut row, memory, reads, writes);
     let ended = take_steps(Registers::of(cpu), edition, &mut row, budget);
     cells::put_back(&row, memory, reads, writes);
-    let last = ended.cpu;
     Taken {
-        cpu: last.record(),
+        cpu: ended.cpu.record(),
         steps: ended.steps,
     }
 }

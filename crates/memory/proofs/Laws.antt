@@ -1,11 +1,13 @@
 -- Performing one part after another: what the parts do, the whole does.
 -- Assumes nothing.
 use Rattle.std.proofs.Common.{◌≡◌, ℕ, sym, refl, ap, ◌∙◌, rules}
-use Rattle.memory.specs.World.{World, byte_at, seen, kept}
+use Rattle.memory.specs.World.{World, world, byte_at, seen, kept}
 use Rattle.memory.specs.Access.{Access, then, ask, put, Outcome, outcome, perform, Does}
 use Rattle.memory.specs.Access.Access.{done, read_at, store_at}
-use Rattle.memory.specs.Promises.{behind, SameLoans, Performs}
+use Rattle.memory.specs.Promises.{behind_reading, behind_storing, SameLoans, SameReading, SameStoring, Done, Reads, Puts}
 use Rattle.memory.specs.declared.Bus.{Bus}
+use Rattle.memory.specs.declared.Reading.{Reading}
+use Rattle.memory.specs.declared.Storing.{Storing}
 
 pub perform_then : {R S : Type 0} (p : Access S) (k : S → Access R) (w : World)
     → perform (then p k) w ≡ perform (k (perform p w).result) (perform p w).left
@@ -52,17 +54,43 @@ put_at e f g = rw (← e) (put_then f g)
 pub by : {A R : Type 0} (p : A → Access R) {x y : A} {w : World} {o : Outcome World R} → x ≡ y → Does (p x) w o → Does (p y) w o
 by p e f = rw (← e) f
 
--- A function that is a chain of accesses is proved by `search accesses`: whatever the search wants, it finds by what it says.
+-- ---- what is lent stays the same
+
 pub same_loans : (a : Bus) → SameLoans a a
 same_loans a = record { memory = refl; reads = refl; writes = refl }
 
 pub still_same : {a b c : Bus} → SameLoans a b → SameLoans b c → SameLoans a c
 still_same e f = record { memory = f.memory ∙ e.memory; reads = f.reads ∙ e.reads; writes = f.writes ∙ e.writes }
 
-pub performs : {R : Type 0} {p : Access R} {a b : Bus} {r : R} → Does p (behind a) (outcome r (behind b)) → SameLoans a b → Performs p a b r
+pub same_reading : (a : Reading) → SameReading a a
+same_reading a = record { memory = refl; reads = refl; writes = refl }
+
+pub still_reading : {a b c : Reading} → SameReading a b → SameReading b c → SameReading a c
+still_reading e f = record { memory = f.memory ∙ e.memory; reads = f.reads ∙ e.reads; writes = f.writes ∙ e.writes }
+
+pub same_storing : (a : Storing) → SameStoring a a
+same_storing a = record { memory = refl; reads = refl; writes = refl }
+
+pub still_storing : {a b c : Storing} → SameStoring a b → SameStoring b c → SameStoring a c
+still_storing e f = record { memory = f.memory ∙ e.memory; reads = f.reads ∙ e.reads; writes = f.writes ∙ e.writes }
+
+-- A function that is a chain of accesses is proved by `search accesses`: whatever the search wants, it finds by what it says.
+pub performs : {B : Type 0} {world_of : B → World} {Same : B → B → Type 0} {R : Type 0} {p : Access R} {a b : B} {r : R}
+    → Does p (world_of a) (outcome r (world_of b)) → Same a b → Done world_of Same p a b r
 performs d s = record { does = d; same = s }
 
-pub ruleset accesses = (rules, performs, same_loans, still_same, chain, ends, ends_at, read_then, put_then, read_at_lem, put_at)
+-- What a reading leaves: memory and written map are those that it was lent; and what a storing leaves.
+pub reading_leaves : {R : Type 0} {p : Access R} {a b : Reading} {r : R} → Reads p a b r
+    → Does p (behind_reading a) (outcome r (world a.memory.now b.reads.now a.writes.now))
+reading_leaves e = rw (e.same.memory, e.same.writes) at e.does
+
+pub storing_leaves : {R : Type 0} {p : Access R} {a b : Storing} {r : R} → Puts p a b r
+    → Does p (behind_storing a) (outcome r (world b.memory.now a.reads.now b.writes.now))
+storing_leaves e = rw e.same.reads at e.does
+
+pub ruleset loans = (same_loans, still_same, same_reading, still_reading, same_storing, still_storing)
+
+pub ruleset accesses = (rules, performs, loans, chain, ends, ends_at, read_then, put_then, read_at_lem, put_at)
 
 -- Two outcomes that meet one contract coincide.
 pub does_once : {R : Type 0} {p : Access R} {w : World} {o q : Outcome World R} → Does p w o → Does p w q → o ≡ q

@@ -1,13 +1,13 @@
 // Address modes.
 ghost use Rattle.std.specs.Prelude.{◌≡◌, ◌^◌, ◌≤◌};
-ghost use Rattle.memory.specs.Promises.{Performs};
+ghost use Rattle.memory.specs.Promises.{Reads};
 ghost use Rattle.modes.specs.Addresses.{direct_at, onward};
 ghost use Rattle.modes.specs.Modes.{fetch, fetch_word, immediate, direct, direct_word, indirect, pointed, pointer_x, pointer_y, absolute, absolute_pointer, bit_operand, bit_read};
 ghost use Rattle.psw.specs.Status.{bit_of};
 
 use crate::{Addressed, BitAddressed, BitRead, WordAddressed};
 use editions::Edition;
-use memory::Bus;
+use memory::Reading;
 use processor::{Processor, Produced};
 use psw::ProgramStatusWord;
 
@@ -28,8 +28,8 @@ fn page(psw: ProgramStatusWord, byte: u8, index: u8) -> u16
 }
 
 // The byte at PC, with PC behind it. Every opcode, operand and displacement byte is read here.
-pub fn fetch_u8(cpu: Processor, bus: &mut Bus) -> Produced
-    ensures { Performs (fetch cpu) bus.old bus.new result }
+pub fn fetch_u8(cpu: Processor, bus: &mut Reading) -> Produced
+    ensures { Reads (fetch cpu) bus.old bus.new result }
 {
     let byte = bus.read(cpu.pc);
     Produced {
@@ -39,8 +39,8 @@ pub fn fetch_u8(cpu: Processor, bus: &mut Bus) -> Produced
 }
 
 // The word at PC, low byte first, with PC behind it.
-pub fn fetch_u16(cpu: Processor, bus: &mut Bus) -> Addressed
-    ensures { Performs (fetch_word cpu) bus.old bus.new result }
+pub fn fetch_u16(cpu: Processor, bus: &mut Reading) -> Addressed
+    ensures { Reads (fetch_word cpu) bus.old bus.new result }
 {
     let low = fetch_u8(cpu, bus);
     let high = fetch_u8(low.cpu, bus);
@@ -61,8 +61,8 @@ pub fn imm(cpu: Processor) -> Addressed
 }
 
 // d plus an index.
-pub fn d_off(cpu: Processor, bus: &mut Bus, index: u8) -> Addressed
-    ensures { Performs (direct index cpu) bus.old bus.new result }
+pub fn d_off(cpu: Processor, bus: &mut Reading, index: u8) -> Addressed
+    ensures { Reads (direct index cpu) bus.old bus.new result }
 {
     let operand = fetch_u8(cpu, bus);
     Addressed {
@@ -72,29 +72,29 @@ pub fn d_off(cpu: Processor, bus: &mut Bus, index: u8) -> Addressed
 }
 
 // d
-pub fn d(cpu: Processor, bus: &mut Bus) -> Addressed
-    ensures { Performs (direct 0 cpu) bus.old bus.new result }
+pub fn d(cpu: Processor, bus: &mut Reading) -> Addressed
+    ensures { Reads (direct 0 cpu) bus.old bus.new result }
 {
     d_off(cpu, bus, 0)
 }
 
 // d+X
-pub fn dx(cpu: Processor, bus: &mut Bus) -> Addressed
-    ensures { Performs (direct cpu.x cpu) bus.old bus.new result }
+pub fn dx(cpu: Processor, bus: &mut Reading) -> Addressed
+    ensures { Reads (direct cpu.x cpu) bus.old bus.new result }
 {
     d_off(cpu, bus, cpu.x)
 }
 
 // d+Y
-pub fn dy(cpu: Processor, bus: &mut Bus) -> Addressed
-    ensures { Performs (direct cpu.y cpu) bus.old bus.new result }
+pub fn dy(cpu: Processor, bus: &mut Reading) -> Addressed
+    ensures { Reads (direct cpu.y cpu) bus.old bus.new result }
 {
     d_off(cpu, bus, cpu.y)
 }
 
 // d as a word: the addresses of its low and its high byte, both in the direct page.
-pub fn dw(cpu: Processor, bus: &mut Bus) -> WordAddressed
-    ensures { Performs (direct_word cpu) bus.old bus.new result }
+pub fn dw(cpu: Processor, bus: &mut Reading) -> WordAddressed
+    ensures { Reads (direct_word cpu) bus.old bus.new result }
 {
     let operand = fetch_u8(cpu, bus);
     WordAddressed {
@@ -125,8 +125,8 @@ pub fn iy(cpu: Processor) -> Addressed
 }
 
 // The pointer at an address of the direct page, plus an index. The edition says where its second byte stands.
-fn pointer(d: Addressed, edition: Edition, bus: &mut Bus, index: u8) -> Addressed
-    ensures { Performs (pointed edition index d) bus.old bus.new result }
+fn pointer(d: Addressed, edition: Edition, bus: &mut Reading, index: u8) -> Addressed
+    ensures { Reads (pointed edition index d) bus.old bus.new result }
 {
     let low = bus.read(d.at);
     let high = bus.read(editions::second_at(edition, d.at));
@@ -137,24 +137,24 @@ fn pointer(d: Addressed, edition: Edition, bus: &mut Bus, index: u8) -> Addresse
 }
 
 // [d+X]
-pub fn idx(cpu: Processor, edition: Edition, bus: &mut Bus) -> Addressed
-    ensures { Performs (pointer_x edition cpu) bus.old bus.new result }
+pub fn idx(cpu: Processor, edition: Edition, bus: &mut Reading) -> Addressed
+    ensures { Reads (pointer_x edition cpu) bus.old bus.new result }
 {
     let at = dx(cpu, bus);
     pointer(at, edition, bus, 0)
 }
 
 // [d]+Y
-pub fn idy(cpu: Processor, edition: Edition, bus: &mut Bus) -> Addressed
-    ensures { Performs (pointer_y edition cpu) bus.old bus.new result }
+pub fn idy(cpu: Processor, edition: Edition, bus: &mut Reading) -> Addressed
+    ensures { Reads (pointer_y edition cpu) bus.old bus.new result }
 {
     let at = d(cpu, bus);
     pointer(at, edition, bus, cpu.y)
 }
 
 // !a plus an index.
-pub fn abs_off(cpu: Processor, bus: &mut Bus, index: u8) -> Addressed
-    ensures { Performs (absolute index cpu) bus.old bus.new result }
+pub fn abs_off(cpu: Processor, bus: &mut Reading, index: u8) -> Addressed
+    ensures { Reads (absolute index cpu) bus.old bus.new result }
 {
     let operand = fetch_u16(cpu, bus);
     Addressed {
@@ -164,29 +164,29 @@ pub fn abs_off(cpu: Processor, bus: &mut Bus, index: u8) -> Addressed
 }
 
 // !a
-pub fn abs(cpu: Processor, bus: &mut Bus) -> Addressed
-    ensures { Performs (absolute 0 cpu) bus.old bus.new result }
+pub fn abs(cpu: Processor, bus: &mut Reading) -> Addressed
+    ensures { Reads (absolute 0 cpu) bus.old bus.new result }
 {
     abs_off(cpu, bus, 0)
 }
 
 // !a+X
-pub fn absx(cpu: Processor, bus: &mut Bus) -> Addressed
-    ensures { Performs (absolute cpu.x cpu) bus.old bus.new result }
+pub fn absx(cpu: Processor, bus: &mut Reading) -> Addressed
+    ensures { Reads (absolute cpu.x cpu) bus.old bus.new result }
 {
     abs_off(cpu, bus, cpu.x)
 }
 
 // !a+Y
-pub fn absy(cpu: Processor, bus: &mut Bus) -> Addressed
-    ensures { Performs (absolute cpu.y cpu) bus.old bus.new result }
+pub fn absy(cpu: Processor, bus: &mut Reading) -> Addressed
+    ensures { Reads (absolute cpu.y cpu) bus.old bus.new result }
 {
     abs_off(cpu, bus, cpu.y)
 }
 
 // [!a+X]: the word there, whatever the edition.
-pub fn iax(cpu: Processor, bus: &mut Bus) -> Addressed
-    ensures { Performs (absolute_pointer cpu) bus.old bus.new result }
+pub fn iax(cpu: Processor, bus: &mut Reading) -> Addressed
+    ensures { Reads (absolute_pointer cpu) bus.old bus.new result }
 {
     let operand = absx(cpu, bus);
     let at = bus.read_u16(operand.at);
@@ -197,8 +197,8 @@ pub fn iax(cpu: Processor, bus: &mut Bus) -> Addressed
 }
 
 // Mb: the address of a byte and the number of a bit.
-pub fn bit_operand(cpu: Processor, bus: &mut Bus) -> BitAddressed
-    ensures performed { Performs (bit_operand cpu) bus.old bus.new result }
+pub fn bit_operand(cpu: Processor, bus: &mut Reading) -> BitAddressed
+    ensures performed { Reads (bit_operand cpu) bus.old bus.new result }
     ensures one_of_eight { result.bit ≤ 7 }
 {
     let operand = fetch_u16(cpu, bus);
@@ -218,8 +218,8 @@ pub fn has_bit(byte: u8, bit: u8) -> bool
 }
 
 // The bit that Mb names.
-pub fn mb(cpu: Processor, bus: &mut Bus) -> BitRead
-    ensures { Performs (bit_read cpu) bus.old bus.new result }
+pub fn mb(cpu: Processor, bus: &mut Reading) -> BitRead
+    ensures { Reads (bit_read cpu) bus.old bus.new result }
 {
     let operand = bit_operand(cpu, bus);
     let byte = bus.read(operand.at);

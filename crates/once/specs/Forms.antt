@@ -1,11 +1,13 @@
 -- The forms that our contracts have: each leaves one outcome.
 -- Assumes nothing.
-use Rattle.std.specs.Prelude.{ℕ, ◌≡◌, refl, List, [], ◌∷◌, ◌++◌}
+use Rattle.std.specs.Prelude.{ℕ, ◌≡◌, refl, List, [], ◌∷◌, ◌++◌, Result}
 use Rattle.std.proofs.Common.{ap, sym, ◌∙◌}
 use Rattle.memory.specs.World.{World, world}
-use Rattle.memory.specs.Access.{Access, Outcome, outcome, Does}
+use Rattle.memory.specs.Access.{Access, Outcome, outcome}
+use Rattle.memory.specs.Promises.{Done, Answers, behind}
+use Rattle.memory.specs.declared.Bus.{Bus}
 use Rattle.memory.proofs.Laws.{does_once}
-use Rattle.text.specs.declared.Written.{Written}
+use Rattle.refusals.specs.declared.Refusal.{Refusal}
 use Rattle.text.specs.Given.{Wanted, Given}
 use Rattle.text.proofs.Laws.{given_once}
 use Rattle.laws.specs.Filled.{Filled, filled}
@@ -24,8 +26,8 @@ use Rattle.once.specs.Law.{nothing}
 pub answers : {A : Type 0} {x y z : A} → x ≡ z → y ≡ z → (x ≡ y) × (nothing ≡ nothing)
 answers p q = (p ∙ sym q, refl)
 
--- the bytes of a slice that is answered
-pub shows : {s t z : List ℕ} → s ≡ z → t ≡ z → s ≡ t
+-- what a slice that is answered holds
+pub shows : {T : Type 0} {s t z : List T} → s ≡ z → t ≡ z → s ≡ t
 shows p q = p ∙ sym q
 
 abbrev None : Type 0
@@ -36,26 +38,25 @@ pub leaves : {x y : None} {s t z : List ℕ} → s ≡ z → t ≡ z → (x ≡ 
 leaves p q = (refl, p ∙ sym q)
 
 -- a text given into a buffer
-pub gives : {w : Wanted} {before s t : List ℕ} {x y : Written} → Given w before s x → Given w before t y → (x ≡ y) × (s ≡ t)
+pub gives : {w : Wanted} {before s t : List ℕ} {x y : Result ℕ Refusal} → Given w before s x → Given w before t y → (x ≡ y) × (s ≡ t)
 gives p q = let same = given_once p q in (same.1, same.0)
 
--- Accesses to the memory m with the read map s and the written map u; in the other outcome they are n, t and v.
-module _ {R : Type 0} {x y : R} {m n s t u v : List ℕ} where
-  -- reads: of the three, the read map is written to
-  pub reads : {p : Access R} {w : World} → Does p w (outcome x (world m s u)) → Does p w (outcome y (world n t v)) → (x ≡ y) × (s ≡ t)
-  reads p q = let same = does_once p q in (ap (λ o. o.result) same, ap (λ o. o.left.reads) same)
+-- accesses on a bus, whoever it is lent to: what is behind it
+pub performs : {B : Type 0} {world_of : B → World} {Same : B → B → Type 0} {R : Type 0} {p : Access R} {a b c : B} {x y : R}
+    → Done world_of Same p a b x → Done world_of Same p a c y → (x ≡ y) × (world_of b ≡ world_of c)
+performs p q = let same = does_once p.does q.does in (ap (λ o. o.result) same, ap (λ o. o.left) same)
 
-  -- stores: the memory and the written map are
-  pub stores : {p : Access R} {w : World}
-      → Does p w (outcome x (world m s u)) → Does p w (outcome y (world n t v)) → (x ≡ y) × ((m ∷ u ∷ []) ≡ (n ∷ v ∷ []))
-  stores p q = let same = does_once p q in (ap (λ o. o.result) same, ap (λ o. o.left.memory ∷ o.left.writes ∷ []) same)
+-- steps on a bus: the same
+pub steps : {R : Type 0} {answer : World → Outcome World R} {a b c : Bus} {x y : R}
+    → Answers answer a b x → Answers answer a c y → (x ≡ y) × (behind b ≡ behind c)
+steps p q = let same = p.is ∙ sym q.is in (ap (λ o. o.result) same, ap (λ o. o.left) same)
 
-  -- steps and runs: all three are
-  pub runs : {o : Outcome World R}
-      → outcome x (world m s u) ≡ o → outcome y (world n t v) ≡ o → (x ≡ y) × ((m ∷ s ∷ u ∷ []) ≡ (n ∷ t ∷ v ∷ []))
-  runs p q =
-      let same = p ∙ sym q in
-      (ap (λ o. o.result) same, ap (λ o. o.left.memory ∷ o.left.reads ∷ o.left.writes ∷ []) same)
+-- steps and runs on what is lent one by one: the memory m with the read map s and the written map u; in the other outcome n, t and v
+pub runs : {R : Type 0} {x y : R} {m n s t u v : List ℕ} {o : Outcome World R}
+    → outcome x (world m s u) ≡ o → outcome y (world n t v) ≡ o → (x ≡ y) × ((m ∷ s ∷ u ∷ []) ≡ (n ∷ t ∷ v ∷ []))
+runs p q =
+    let same = p ∙ sym q in
+    (ap (λ o. o.result) same, ap (λ o. o.left.memory ∷ o.left.reads ∷ o.left.writes ∷ []) same)
 
 -- a call of the library: the registers' bytes a, and all three
 pub calls : {x y : ℕ} {a b m n s t u v : List ℕ} {c : Called}

@@ -1,8 +1,9 @@
 -- What an instruction reads has one outcome.
 -- Assumes nothing.
+use Rattle.memory.specs.Promises.{behind_reading}
 use Rattle.gather.proofs as gather
-use Rattle.once.specs.Law.{One, fourth}
-use Rattle.once.specs.Forms.{reads}
+use Rattle.once.specs.Law.{One, third}
+use Rattle.once.specs.Forms.{performs}
 
-pub gather_once : One gather.gather.Reads.Post (λ κ. fourth)
-gather_once = record { same = reads }
+pub gather_once : One gather.gather.Reads.Post (λ κ e. behind_reading (third e))
+gather_once = record { same = performs }

@@ -18,55 +18,55 @@ module _ {K : Type 0} {A R E : K → Type 0} where
   abbrev pub Answers : ((κ : K) → A κ → R κ → E κ → Type 0) → Type 0
   Answers post = One post (λ κ e. nothing)
 
--- ---- the content at exit of a parameter by its place, which is bytes that are lent
+-- ---- the content at exit of a parameter by its place, which is lent
 
-abbrev pub first : {A : Type 0} → MutBor (List ℕ) × A → List ℕ
+abbrev pub first : {X A : Type 0} → MutBor X × A → X
 first e = e.0.now
 
-abbrev pub second : {A B : Type 0} → A × (MutBor (List ℕ) × B) → List ℕ
+abbrev pub second : {X A B : Type 0} → A × (MutBor X × B) → X
 second e = e.1.0.now
 
-abbrev pub third : {A B C : Type 0} → A × (B × (MutBor (List ℕ) × C)) → List ℕ
+abbrev pub third : {X A B C : Type 0} → A × (B × (MutBor X × C)) → X
 third e = e.1.1.0.now
 
-abbrev pub fourth : {A B C D : Type 0} → A × (B × (C × (MutBor (List ℕ) × D))) → List ℕ
+abbrev pub fourth : {X A B C D : Type 0} → A × (B × (C × (MutBor X × D))) → X
 fourth e = e.1.1.1.0.now
 
-abbrev pub fifth : {A B C D E : Type 0} → A × (B × (C × (D × (MutBor (List ℕ) × E)))) → List ℕ
+abbrev pub fifth : {X A B C D E : Type 0} → A × (B × (C × (D × (MutBor X × E)))) → X
 fifth e = e.1.1.1.1.0.now
 
-abbrev pub sixth : {A B C D E F : Type 0} → A × (B × (C × (D × (E × (MutBor (List ℕ) × F))))) → List ℕ
+abbrev pub sixth : {X A B C D E F : Type 0} → A × (B × (C × (D × (E × (MutBor X × F))))) → X
 sixth e = e.1.1.1.1.1.0.now
 
-abbrev pub seventh : {A B C D E F G : Type 0} → A × (B × (C × (D × (E × (F × (MutBor (List ℕ) × G)))))) → List ℕ
+abbrev pub seventh : {X A B C D E F G : Type 0} → A × (B × (C × (D × (E × (F × (MutBor X × G)))))) → X
 seventh e = e.1.1.1.1.1.1.0.now
 
-abbrev pub eighth : {A B C D E F G H : Type 0} → A × (B × (C × (D × (E × (F × (G × (MutBor (List ℕ) × H))))))) → List ℕ
+abbrev pub eighth : {X A B C D E F G H : Type 0} → A × (B × (C × (D × (E × (F × (G × (MutBor X × H))))))) → X
 eighth e = e.1.1.1.1.1.1.1.0.now
 
-abbrev pub ninth : {A B C D E F G H I : Type 0} → A × (B × (C × (D × (E × (F × (G × (H × (MutBor (List ℕ) × I)))))))) → List ℕ
+abbrev pub ninth : {X A B C D E F G H I : Type 0} → A × (B × (C × (D × (E × (F × (G × (H × (MutBor X × I)))))))) → X
 ninth e = e.1.1.1.1.1.1.1.1.0.now
 
-abbrev pub tenth : {A B C D E F G H I J : Type 0} → A × (B × (C × (D × (E × (F × (G × (H × (I × (MutBor (List ℕ) × J))))))))) → List ℕ
+abbrev pub tenth : {X A B C D E F G H I J : Type 0} → A × (B × (C × (D × (E × (F × (G × (H × (I × (MutBor X × J))))))))) → X
 tenth e = e.1.1.1.1.1.1.1.1.1.0.now
 
-abbrev pub eleventh : {A B C D E F G H I J K : Type 0} → A × (B × (C × (D × (E × (F × (G × (H × (I × (J × (MutBor (List ℕ) × K)))))))))) → List ℕ
+abbrev pub eleventh : {X A B C D E F G H I J K : Type 0} → A × (B × (C × (D × (E × (F × (G × (H × (I × (J × (MutBor X × K)))))))))) → X
 eleventh e = e.1.1.1.1.1.1.1.1.1.1.0.now
 
-abbrev pub twelfth : {A B C D E F G H I J K L : Type 0} → A × (B × (C × (D × (E × (F × (G × (H × (I × (J × (K × (MutBor (List ℕ) × L))))))))))) → List ℕ
+abbrev pub twelfth : {X A B C D E F G H I J K L : Type 0} → A × (B × (C × (D × (E × (F × (G × (H × (I × (J × (K × (MutBor X × L))))))))))) → X
 twelfth e = e.1.1.1.1.1.1.1.1.1.1.1.0.now
 
-abbrev pub thirteenth : {A B C D E F G H I J K L M : Type 0} → A × (B × (C × (D × (E × (F × (G × (H × (I × (J × (K × (L × (MutBor (List ℕ) × M)))))))))))) → List ℕ
+abbrev pub thirteenth : {X A B C D E F G H I J K L M : Type 0} → A × (B × (C × (D × (E × (F × (G × (H × (I × (J × (K × (L × (MutBor X × M)))))))))))) → X
 thirteenth e = e.1.1.1.1.1.1.1.1.1.1.1.1.0.now
 
-abbrev pub fourteenth : {A B C D E F G H I J K L M N : Type 0} → A × (B × (C × (D × (E × (F × (G × (H × (I × (J × (K × (L × (M × (MutBor (List ℕ) × N))))))))))))) → List ℕ
+abbrev pub fourteenth : {X A B C D E F G H I J K L M N : Type 0} → A × (B × (C × (D × (E × (F × (G × (H × (I × (J × (K × (L × (M × (MutBor X × N))))))))))))) → X
 fourteenth e = e.1.1.1.1.1.1.1.1.1.1.1.1.1.0.now
 
-abbrev pub fifteenth : {A B C D E F G H I J K L M N O : Type 0} → A × (B × (C × (D × (E × (F × (G × (H × (I × (J × (K × (L × (M × (N × (MutBor (List ℕ) × O)))))))))))))) → List ℕ
+abbrev pub fifteenth : {X A B C D E F G H I J K L M N O : Type 0} → A × (B × (C × (D × (E × (F × (G × (H × (I × (J × (K × (L × (M × (N × (MutBor X × O)))))))))))))) → X
 fifteenth e = e.1.1.1.1.1.1.1.1.1.1.1.1.1.1.0.now
 
 -- ---- a function that answers a part of a slice
 
--- Two outcomes that meet the contract for the same arguments show the same bytes.
-pub record Shows {K : Type 0} {A E : K → Type 0} (post : (κ : K) → A κ → Bor (List ℕ) → E κ → Type 0) : Type 0 where
-  pub same : {κ : K} {a : A κ} {x y : Bor (List ℕ)} {e f : E κ} → post κ a x e → post κ a y f → x.now ≡ y.now
+-- Two outcomes that meet the contract for the same arguments show the same.
+pub record Shows {T K : Type 0} {A E : K → Type 0} (post : (κ : K) → A κ → Bor (List T) → E κ → Type 0) : Type 0 where
+  pub same : {κ : K} {a : A κ} {x y : Bor (List T)} {e f : E κ} → post κ a x e → post κ a y f → x.now ≡ y.now

@@ -1,18 +1,19 @@
 -- Each read and each store has one outcome.
 -- Assumes nothing.
-use Rattle.std.specs.Prelude.{[], ◌∷◌}
-use Rattle.memory.proofs as memory
-use Rattle.once.specs.Law.{One, first, second, third}
-use Rattle.once.specs.Forms.{reads, stores}
+use Rattle.memory.proofs.Reading as reading
+use Rattle.memory.proofs.Storing as storing
+use Rattle.memory.specs.Promises.{behind_reading, behind_storing}
+use Rattle.once.specs.Law.{One, first}
+use Rattle.once.specs.Forms.{performs}
 
-pub read_once : One memory.read.Reads.Post (λ κ. second)
-read_once = record { same = reads }
+pub read_once : One reading.read.Reads.Post (λ κ e. behind_reading (first e))
+read_once = record { same = performs }
 
-pub store_once : One memory.store.Reads.Post (λ κ e. first e ∷ third e ∷ [])
-store_once = record { same = stores }
+pub read_u16_once : One reading.read_u16.Reads.Post (λ κ e. behind_reading (first e))
+read_u16_once = record { same = performs }
 
-pub read_u16_once : One memory.read_u16.Reads.Post (λ κ. second)
-read_u16_once = record { same = reads }
+pub store_once : One storing.store.Reads.Post (λ κ e. behind_storing (first e))
+store_once = record { same = performs }
 
-pub write_u16_once : One memory.write_u16.Reads.Post (λ κ e. first e ∷ third e ∷ [])
-write_u16_once = record { same = stores }
+pub write_u16_once : One storing.write_u16.Reads.Post (λ κ e. behind_storing (first e))
+write_u16_once = record { same = performs }

@@ -4,8 +4,8 @@ use Rattle.opcode_data.proofs as crate
 use Rattle.opcode_data.proofs.AddressMode as mode
 use Rattle.opcode_data.proofs.Modes as modes
 use Rattle.opcode_data.proofs.OpcodeData as opcode
-use Rattle.once.specs.Law.{One, Answers, third}
-use Rattle.once.specs.Forms.{answers, gives}
+use Rattle.once.specs.Law.{One, Answers, Shows, third}
+use Rattle.once.specs.Forms.{answers, shows, gives}
 
 pub from_opcode_once : Answers opcode.from_opcode.Reads.Post
 from_opcode_once = record { same = answers }
@@ -21,3 +21,6 @@ on_line_once = record { same = answers }
 
 pub format_address_modes_once : One crate.format_address_modes.Reads.Post (λ κ. third)
 format_address_modes_once = record { same = gives }
+
+pub counted_once : Shows modes.counted.Reads.Post
+counted_once = record { same = shows }

@@ -5,9 +5,6 @@ use Rattle.processor.proofs.Processor as cpu
 use Rattle.once.specs.Law.{One, Answers, second}
 use Rattle.once.specs.Forms.{answers, gives}
 
-pub default_once : Answers cpu.default.Reads.Post
-default_once = record { same = answers }
-
 pub set_nz_once : Answers cpu.set_nz.Reads.Post
 set_nz_once = record { same = answers }
 

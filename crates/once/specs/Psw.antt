@@ -8,9 +8,6 @@ use Rattle.once.specs.Forms.{answers, gives}
 pub one_if_once : Answers psw.one_if.Reads.Post
 one_if_once = record { same = λ p q. answers p.0 q.0 }
 
-pub default_once : Answers word.default.Reads.Post
-default_once = record { same = answers }
-
 pub to_byte_once : Answers word.to_byte.Reads.Post
 to_byte_once = record { same = answers }
 

@@ -24,3 +24,6 @@ number_once = record { same = answers }
 
 pub set_number_once : One state.set_number.Reads.Post (λ κ. first)
 set_number_once = record { same = leaves }
+
+pub whole_in_once : Answers state.whole_in.Reads.Post
+whole_in_once = record { same = answers }

@@ -1,8 +1,8 @@
 -- Each function on a line of text has one outcome.
 -- Assumes nothing.
 use Rattle.text.proofs.Line as line
-use Rattle.once.specs.Law.{One, Answers, second}
-use Rattle.once.specs.Forms.{answers, gives}
+use Rattle.once.specs.Law.{One, Answers, Shows, second}
+use Rattle.once.specs.Forms.{answers, shows, gives}
 
 pub new_once : Answers line.new.Reads.Post
 new_once = record { same = answers }
@@ -30,3 +30,6 @@ signed_once = record { same = answers }
 
 pub give_once : One line.give.Reads.Post (λ κ. second)
 give_once = record { same = gives }
+
+pub shown_once : Shows line.shown.Reads.Post
+shown_once = record { same = shows }

@@ -1,6 +1,5 @@
 pub mod Cells
 pub mod Joined
-pub mod Keys
 pub mod Lengths
 pub mod Lists
-pub mod Places
+pub mod Mapped

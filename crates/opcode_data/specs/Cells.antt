@@ -1,8 +1,9 @@
 -- How the code's table writes an operand: by a letter. The definition of an opcode's data does not rest on this page.
-use Rattle.std.specs.Prelude.{ℕ, ◌/◌, cond, List, [], ◌∷◌, eqb}
+use Rattle.std.specs.Prelude.{ℕ, ◌/◌, not, cond, List, [], ◌∷◌, map, count_by, eqb}
 use Prim.Native.Char.{Char, code}
 use Rattle.opcode_data.specs.declared.AddressMode.{AddressMode}
 use Rattle.opcode_data.specs.declared.AddressMode.TheVariants.{A, X, XInc, Y, Ya, Imm, D, Dx, Dy, Ix, Iy, Idx, Idy, Abs, AbsX, AbsY, Iax, Rel, Mb, Nmb, C, Sp, Psw, Encoded}
+use Rattle.opcode_data.specs.declared.Modes.{Modes}
 
 -- a letter and the mode that it stands for
 pub record Letter : Type 0 where
@@ -50,6 +51,9 @@ look_up (l ∷ ls) letter = cond (eqb letter l.letter) l.mode (look_up ls letter
 abbrev pub mode_of : ℕ → ℕ → AddressMode
 mode_of letter opcode = look_up (legend opcode) letter
 
--- a letter counts as an operand, a blank does not
-abbrev pub one_unless_blank : ℕ → ℕ
-one_unless_blank letter = cond (eqb letter (code " ")) 0 1
+-- The operands that the letters of a cell stand for. A letter counts as an operand, a blank does not.
+abbrev pub operands : List ℕ → ℕ → Modes
+operands letters opcode = record {
+  three = map (λ letter. mode_of letter opcode) letters;
+  count = count_by (λ letter. not (eqb letter (code " "))) letters;
+}

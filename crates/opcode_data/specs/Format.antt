@@ -1,5 +1,6 @@
 -- The text of a list of modes with their operand bytes, and what refuses it.
 use Rattle.std.specs.Prelude.{ℕ, ◌+◌, ◌*◌, cond, List, [], ◌∷◌, ◌++◌, ltb, length, get_or}
+use Rattle.refusals.specs.declared.Refusal.TheVariants.{Count, Operands}
 use Rattle.signed.specs.Displacement.{signed_of}
 use Rattle.text.specs.Digits.{hex_byte, hex_word, hex_short, signed_decimal}
 use Rattle.text.specs.Given.{Wanted, says, refuses}
@@ -78,9 +79,10 @@ modes_text [] bytes = []
 modes_text (m ∷ []) bytes = text_at m bytes 0
 modes_text (m ∷ l ∷ ms) bytes = text_at m bytes (taken (l ∷ ms)) ++ text ", " ++ modes_text (l ∷ ms) bytes
 
--- Refusal 5 exactly if the count is above 3, then 4 exactly if there are fewer operand bytes than the modes take. Spare bytes are ignored.
+-- Refused for the count exactly if it is above 3, then for want of operands exactly if there are fewer operand bytes than the modes take.
+-- Spare bytes are ignored.
 unfoldable pub format_of : Modes → List ℕ → Wanted
 format_of m bytes =
-    cond (ltb 3 m.count) (refuses 5)
-    (cond (ltb (length bytes) (taken (list_of m))) (refuses 4)
+    cond (ltb 3 m.count) (refuses Count)
+    (cond (ltb (length bytes) (taken (list_of m))) (refuses Operands)
     (says (modes_text (list_of m) bytes)))

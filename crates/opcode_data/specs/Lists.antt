@@ -5,7 +5,7 @@ use Rattle.opcode_data.specs.declared.AddressMode.TheVariants.{A}
 use Rattle.opcode_data.specs.declared.Modes.{Modes}
 
 abbrev pub modes : AddressMode → AddressMode → AddressMode → ℕ → Modes
-modes first second third count = record { first = first; second = second; third = third; count = count }
+modes first second third count = record { three = first ∷ second ∷ third ∷ []; count = count }
 
 -- The record of a list: A fills the places that do not count. A list longer than three is cut.
 abbrev pub record_of : List AddressMode → Modes
@@ -16,4 +16,4 @@ record_of (a ∷ b ∷ c ∷ ms) = modes a b c 3
 
 -- The list that a record holds: modes beyond the count are ignored.
 abbrev pub list_of : Modes → List AddressMode
-list_of m = take m.count (m.first ∷ m.second ∷ m.third ∷ [])
+list_of m = take m.count m.three

@@ -1,5 +1,5 @@
 // The text of a list of operands.
-ghost use Rattle.std.specs.Prelude.{◌+◌, ◌*◌, ◌≤◌, [], ◌∷◌, ◌≡◌, get_or};
+ghost use Rattle.std.specs.Prelude.{◌*◌, ◌≤◌, ◌≡◌, length};
 ghost use Rattle.laws.specs.Lent.{lent};
 ghost use Rattle.text.specs.Given.{Gives};
 ghost use Rattle.text.specs.Line.{adds};
@@ -7,7 +7,8 @@ ghost use Rattle.opcode_data.specs.Lists.{list_of};
 ghost use Rattle.opcode_data.specs.Format.{takes, taken, mode_text, text_at, modes_text, format_of};
 
 use crate::{AddressMode, Modes};
-use text::{Line, Written};
+use refusals::Refusal;
+use text::Line;
 
 impl AddressMode {
     // How many operand bytes the text of this mode takes.
@@ -28,6 +29,7 @@ impl AddressMode {
     }
 
     // A line with this mode behind it, with the byte or the two bytes that it takes.
+    #[tactic(auto, unfolding(text::specs::Line::adds))]
     fn on_line(self, line: Line, low: u8, high: u8) -> Line
         ensures { result ≡ adds line (mode_text self low high) }
     {
@@ -45,10 +47,19 @@ impl AddressMode {
             AddressMode::Iy => line.text(b"(Y)"),
             AddressMode::Idx => line.text(b"([$").hex_byte(low).text(b" + X])"),
             AddressMode::Idy => line.text(b"([$").hex_byte(low).text(b"] + Y)"),
-            AddressMode::Abs => line.push(b'$').hex_word(word(low, high)),
-            AddressMode::AbsX => line.push(b'$').hex_word(word(low, high)).text(b", X"),
-            AddressMode::AbsY => line.push(b'$').hex_word(word(low, high)).text(b", Y"),
-            AddressMode::Iax => line.text(b"[$").hex_word(word(low, high)).push(b']'),
+            AddressMode::Abs => line.push(b'$').hex_word(u16::from_le_bytes([low, high])),
+            AddressMode::AbsX => line
+                .push(b'$')
+                .hex_word(u16::from_le_bytes([low, high]))
+                .text(b", X"),
+            AddressMode::AbsY => line
+                .push(b'$')
+                .hex_word(u16::from_le_bytes([low, high]))
+                .text(b", Y"),
+            AddressMode::Iax => line
+                .text(b"[$")
+                .hex_word(u16::from_le_bytes([low, high]))
+                .push(b']'),
             AddressMode::Rel => line.signed(signed::displacement(low)),
             AddressMode::Mb => line.text(b"Mb"),
             AddressMode::Nmb => line.text(b"Nmb"),
@@ -61,91 +72,75 @@ impl AddressMode {
 }
 
 impl Modes {
+    // The modes that count.
+    pub fn counted(&self) -> &[AddressMode]
+        ensures { result.now ≡ list_of self.now }
+    {
+        &self.three[..usize::from(self.count.min(3))]
+    }
+
     // How many operand bytes the modes that count take.
     pub fn taken(self) -> usize
         ensures { (result ≡ taken (list_of self)) × (result ≤ 6) }
     {
-        let first = self.first;
-        let second = self.second;
-        let third = self.third;
-        let count = self.count;
-        match count {
-            0 => 0,
-            1 => first.takes(),
-            2 => first.takes() + second.takes(),
-            _ => first.takes() + second.takes() + third.takes(),
-        }
+        taken(self.counted())
     }
 
-    // A line with the modes that count behind it. Bytes go from the last mode to the first.
+    // A line with the modes that count behind it.
     pub fn on_line(self, line: Line, values: &[u8]) -> Line
         ensures { result ≡ adds line (modes_text (list_of self) values.now) }
     {
-        let first = self.first;
-        let second = self.second;
-        let third = self.third;
-        let count = self.count;
-        match count {
-            0 => line,
-            1 => operand(first, line, values, 0),
-            2 => two(first, second, line, values),
-            _ => {
-                let at = second.takes() + third.takes();
-                let next = operand(first, line, values, at).text(b", ");
-                two(second, third, next, values)
-            }
+        listed(self.counted(), line, values)
+    }
+}
+
+// How many operand bytes the modes of a list take.
+fn taken(modes: &[AddressMode]) -> usize
+    requires { length modes.now ≤ 3 }
+    ensures { (result ≡ taken modes.now) × (result ≤ 2 * length modes.now) }
+{
+    modes.iter().map(|mode| mode.takes()).sum()
+}
+
+// A line with the modes of a list behind it. Bytes go from the last mode to the first.
+fn listed(modes: &[AddressMode], line: Line, values: &[u8]) -> Line
+    requires { length modes.now ≤ 3 }
+    ensures { result ≡ adds line (modes_text modes.now values.now) }
+{
+    match modes {
+        [] => line,
+        [last] => operand(*last, line, values, 0),
+        [first, rest @ ..] => {
+            let next = operand(*first, line, values, taken(rest)).text(b", ");
+            listed(rest, next, values)
         }
     }
 }
 
-// A line with two modes behind it, whose operand bytes stand at the start of `values`.
-fn two(first: AddressMode, second: AddressMode, line: Line, values: &[u8]) -> Line
-    ensures { result ≡ adds line (modes_text (first ∷ second ∷ []) values.now) }
-{
-    let next = operand(first, line, values, second.takes()).text(b", ");
-    operand(second, next, values, 0)
-}
-
-// A line with a mode behind it, whose operand bytes stand at a place of `values`.
+// A line with a mode behind it, whose operand bytes stand at a place of `values`; past their end a byte is 0.
 fn operand(mode: AddressMode, line: Line, values: &[u8], at: usize) -> Line
     requires { at ≤ 4 }
     ensures { result ≡ adds line (text_at mode values.now at) }
 {
-    let low = byte_at(values, at);
-    let high = byte_at(values, at + 1);
+    let low = values.get(at).copied().unwrap_or(0);
+    let high = values.get(at + 1).copied().unwrap_or(0);
     mode.on_line(line, low, high)
 }
 
-// The byte at a place, or 0 past the end.
-fn byte_at(values: &[u8], at: usize) -> u8
-    ensures { result ≡ get_or values.now at 0 }
-{
-    if at < values.len() { values[at] } else { 0 }
-}
-
-// A word of two bytes.
-fn word(low: u8, high: u8) -> u16
-    ensures { result ≡ high * 256 + low }
-{
-    high as u16 * 256 + low as u16
-}
-
-// Gives the text of a list of modes with their operand bytes into a lent buffer. Refusals: 5 a count above 3, 4 too few operand
-// bytes, 3 a buffer that is too short.
-pub fn format_address_modes(modes: Modes, values: &[u8], buffer: &mut [u8]) -> Written
+// Gives the text of a list of modes with their operand bytes into a lent buffer. Refused are, in this order, a count above 3, too few
+// operand bytes and a buffer that is too short.
+pub fn format_address_modes(
+    modes: Modes,
+    values: &[u8],
+    buffer: &mut [u8],
+) -> Result<usize, Refusal>
     ensures { Gives (format_of modes values.now) (lent buffer) result }
 {
     if modes.count > 3 {
-        return Written {
-            refusal: 5,
-            length: 0,
-        };
+        return Err(Refusal::Count);
     }
     if values.len() < modes.taken() {
-        return Written {
-            refusal: 4,
-            length: 0,
-        };
+        return Err(Refusal::Operands);
     }
     modes.on_line(Line::new(), values).give(buffer)
 }

@@ -1,9 +1,9 @@
 // The instruction table: a cell of ten bytes for each opcode, eight cells a line. A cell is the name, with blanks behind a shorter
 // one, a blank, a letter for each operand (see `mode`), and a blank.
 ghost use Rattle.std.specs.Prelude.{◌≡◌};
-ghost use Rattle.opcode_data.specs.Cells.{mode_of};
+ghost use Rattle.opcode_data.specs.Cells.{mode_of, operands};
 
-use crate::AddressMode;
+use crate::{AddressMode, Modes};
 
 pub const CELLS: [u8; 2560] = *b"\
     NOP       TCALL 4   SET1  d3  BBS   d3r OR    Ad  OR    Aa  OR    A(  OR    A[  \
@@ -39,8 +39,18 @@ pub const CELLS: [u8; 2560] = *b"\
     BEQ   r   TCALL 4   CLR1  d3  BBC   d3r MOV   Ae  MOV   Ab  MOV   Ac  MOV   A]  \
     MOV   Xd  MOV   Xf  MOV   dd  MOV   Ye  INC   Y   MOV   YA  DBNZ  Yr  STOP      ";
 
+// The operands that the letters of a cell stand for.
+pub fn operands(letters: [u8; 3], opcode: u8) -> Modes
+    ensures { result ≡ operands letters opcode }
+{
+    Modes {
+        three: letters.map(|letter| mode(letter, opcode)),
+        count: letters.iter().filter(|letter| **letter != b' ').count() as u8,
+    }
+}
+
 // The operand that a letter stands for. A blank, which stands where there is no operand, counts as A.
-pub fn mode(letter: u8, opcode: u8) -> AddressMode
+fn mode(letter: u8, opcode: u8) -> AddressMode
     ensures { result ≡ mode_of letter opcode }
 {
     match letter {

@@ -4,14 +4,13 @@
 mod format;
 mod grid;
 
-ghost use Rattle.std.specs.Prelude.{◌≤◌, ◌≡◌};
-ghost use Rattle.opcode_data.specs.Cells.{one_unless_blank};
+ghost use Rattle.std.specs.Prelude.{◌≡◌};
 ghost use Rattle.opcode_data.specs.Data.{data_of};
 
 pub use format::format_address_modes;
 
 // Where an operand is found.
-#[derive(Clone, Copy)]
+#[derive(Clone, Copy, Debug, PartialEq, Eq)]
 pub enum AddressMode {
     A,
     X,
@@ -40,12 +39,10 @@ pub enum AddressMode {
     Encoded(u8),
 }
 
-// Up to three operands: the first so many of the three modes count.
+// Up to three operands: the first so many of the three modes count. A caller may hand in any count, and one above three is refused.
 #[derive(Clone, Copy)]
 pub struct Modes {
-    pub first: AddressMode,
-    pub second: AddressMode,
-    pub third: AddressMode,
+    pub three: [AddressMode; 3],
     pub count: u8,
 }
 
@@ -61,33 +58,10 @@ impl OpcodeData {
     pub fn from_opcode(opcode: u8) -> OpcodeData
         ensures { result ≡ data_of opcode }
     {
-        let at = opcode as usize * 10;
-        let cells = grid::CELLS;
-        let first = cells[at + 6];
-        let second = cells[at + 7];
-        let third = cells[at + 8];
-        let modes = Modes {
-            first: grid::mode(first, opcode),
-            second: grid::mode(second, opcode),
-            third: grid::mode(third, opcode),
-            count: one_unless_blank(first) + one_unless_blank(second) + one_unless_blank(third),
-        };
+        let cell = &grid::CELLS[opcode as usize * 10..];
         OpcodeData {
-            name: [
-                cells[at],
-                cells[at + 1],
-                cells[at + 2],
-                cells[at + 3],
-                cells[at + 4],
-            ],
-            modes,
+            name: [cell[0], cell[1], cell[2], cell[3], cell[4]],
+            modes: grid::operands([cell[6], cell[7], cell[8]], opcode),
         }
     }
-}
-
-// A letter counts, a blank does not.
-fn one_unless_blank(letter: u8) -> u8
-    ensures { (result ≡ one_unless_blank letter) × (result ≤ 1) }
-{
-    if letter == b' ' { 0 } else { 1 }
 }

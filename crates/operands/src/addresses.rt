@@ -12,8 +12,9 @@ ghost use Rattle.instructions.specs.Effects.{branching};
 ghost use Rattle.instructions.specs.Step.{finish_of};
 ghost use Rattle.instructions.specs.declared.Stores.TheVariants.{Nothing};
 ghost use Rattle.registers.specs.Flat.{record_of};
-ghost use Rattle.cells.specs.Cells.{Laid, Performs};
+ghost use Rattle.cells.specs.Cells.{Performs};
 
+use cells::Cells;
 use editions::Edition;
 use registers::Registers;
 
@@ -26,16 +27,14 @@ pub fn direct(cpu: Registers, byte: u8, index: u8) -> u16
 }
 
 // The byte at PC.
-pub fn fetch(cpu: Registers, cells: &mut [u16]) -> u8
-    requires { Laid cells.old }
+pub fn fetch(cpu: Registers, cells: &mut Cells) -> u8
     ensures { Performs (modes.fetch (record_of cpu)) (lent cells) (produced (onward (record_of cpu)) result) }
 {
     cells::read(cells, cpu.pc)
 }
 
 // The word at an address, low byte first.
-pub fn read_u16(cells: &mut [u16], at: u16) -> u16
-    requires { Laid cells.old }
+pub fn read_u16(cells: &mut Cells, at: u16) -> u16
     ensures { Performs (read_word at) (lent cells) result }
 {
     let low = cells::read(cells, at);
@@ -44,8 +43,7 @@ pub fn read_u16(cells: &mut [u16], at: u16) -> u16
 }
 
 // d plus an index.
-pub fn d_off(cpu: Registers, cells: &mut [u16], index: u8) -> u16
-    requires { Laid cells.old }
+pub fn d_off(cpu: Registers, cells: &mut Cells, index: u8) -> u16
     ensures { Performs (modes.direct index (record_of cpu)) (lent cells) (addressed (onward (record_of cpu)) result) }
 {
     let byte = fetch(cpu, cells);
@@ -53,8 +51,7 @@ pub fn d_off(cpu: Registers, cells: &mut [u16], index: u8) -> u16
 }
 
 // The word at PC, low byte first.
-pub fn fetch_u16(cpu: Registers, cells: &mut [u16]) -> u16
-    requires { Laid cells.old }
+pub fn fetch_u16(cpu: Registers, cells: &mut Cells) -> u16
     ensures { Performs (modes.fetch_word (record_of cpu)) (lent cells) (addressed (onward (onward (record_of cpu))) result) }
 {
     let low = fetch(cpu, cells);
@@ -63,8 +60,7 @@ pub fn fetch_u16(cpu: Registers, cells: &mut [u16]) -> u16
 }
 
 // !a plus an index.
-pub fn abs_off(cpu: Registers, cells: &mut [u16], index: u8) -> u16
-    requires { Laid cells.old }
+pub fn abs_off(cpu: Registers, cells: &mut Cells, index: u8) -> u16
     ensures { Performs (absolute index (record_of cpu)) (lent cells) (addressed (onward (onward (record_of cpu))) result) }
 {
     let word = fetch_u16(cpu, cells);
@@ -72,8 +68,7 @@ pub fn abs_off(cpu: Registers, cells: &mut [u16], index: u8) -> u16
 }
 
 // The pointer at an address of the direct page, plus an index. The edition says where its second byte stands.
-fn pointer(cells: &mut [u16], edition: Edition, at: u16, index: u8) -> u16
-    requires { Laid cells.old }
+fn pointer(cells: &mut Cells, edition: Edition, at: u16, index: u8) -> u16
     ensures { (cpu : Processor) → Performs (pointed edition index (addressed cpu at)) (lent cells) (addressed cpu result) }
 {
     let low = cells::read(cells, at);
@@ -82,8 +77,7 @@ fn pointer(cells: &mut [u16], edition: Edition, at: u16, index: u8) -> u16
 }
 
 // [d+X]
-pub fn idx(cpu: Registers, edition: Edition, cells: &mut [u16]) -> u16
-    requires { Laid cells.old }
+pub fn idx(cpu: Registers, edition: Edition, cells: &mut Cells) -> u16
     ensures { Performs (pointer_x edition (record_of cpu)) (lent cells) (addressed (onward (record_of cpu)) result) }
 {
     let at = d_off(cpu, cells, cpu.x);
@@ -91,8 +85,7 @@ pub fn idx(cpu: Registers, edition: Edition, cells: &mut [u16]) -> u16
 }
 
 // [d]+Y
-pub fn idy(cpu: Registers, edition: Edition, cells: &mut [u16]) -> u16
-    requires { Laid cells.old }
+pub fn idy(cpu: Registers, edition: Edition, cells: &mut Cells) -> u16
     ensures { Performs (pointer_y edition (record_of cpu)) (lent cells) (addressed (onward (record_of cpu)) result) }
 {
     let at = d_off(cpu, cells, 0);
@@ -108,8 +101,7 @@ fn displaced(pc: u16, byte: u8) -> u16
 }
 
 // A branch: taken, it reads the displacement at PC; else PC passes it by.
-pub fn branch(cpu: Registers, cells: &mut [u16], taken: bool) -> Registers
-    requires { Laid cells.old }
+pub fn branch(cpu: Registers, cells: &mut Cells, taken: bool) -> Registers
     ensures { Performs (finish_of (branching taken Nothing (record_of cpu))) (lent cells) (record_of result) }
 {
     let next = cpu.past();

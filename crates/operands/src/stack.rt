@@ -4,13 +4,13 @@ ghost use Rattle.laws.specs.Lent.{lent};
 ghost use Rattle.processor.specs.Record.{produced};
 ghost use Rattle.modes.specs.Stack as stack;
 ghost use Rattle.registers.specs.Flat.{record_of};
-ghost use Rattle.cells.specs.Cells.{Laid, Performs};
+ghost use Rattle.cells.specs.Cells.{Performs};
 
+use cells::Cells;
 use registers::Registers;
 
 // Stores a byte, then decreases SP.
-pub fn push(cpu: Registers, cells: &mut [u16], byte: u8) -> Registers
-    requires { Laid cells.old }
+pub fn push(cpu: Registers, cells: &mut Cells, byte: u8) -> Registers
     ensures { Performs (stack.push byte (record_of cpu)) (lent cells) (record_of result) }
 {
     cells::store(cells, 0x100 + cpu.sp as u16, byte);
@@ -18,8 +18,7 @@ pub fn push(cpu: Registers, cells: &mut [u16], byte: u8) -> Registers
 }
 
 // Pushes a word, high byte first.
-pub fn push_word(cpu: Registers, cells: &mut [u16], word: u16) -> Registers
-    requires { Laid cells.old }
+pub fn push_word(cpu: Registers, cells: &mut Cells, word: u16) -> Registers
     ensures { Performs (stack.push_word word (record_of cpu)) (lent cells) (record_of result) }
 {
     let next = push(cpu, cells, (word / 256) as u8);
@@ -34,8 +33,7 @@ pub fn raised(cpu: Registers) -> Registers
 }
 
 // The byte one place up the stack.
-pub fn pull(cpu: Registers, cells: &mut [u16]) -> u8
-    requires { Laid cells.old }
+pub fn pull(cpu: Registers, cells: &mut Cells) -> u8
     ensures { Performs (stack.pull (record_of cpu)) (lent cells) (produced (stack.raised (record_of cpu)) result) }
 {
     cells::read(cells, 0x100 + std::num::wrapping_add_u8(cpu.sp, 1) as u16)

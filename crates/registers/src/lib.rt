@@ -48,7 +48,6 @@ impl Registers {
         ensures { record_of result ≡ cpu }
     {
         let psw = cpu.psw;
-        let state = cpu.state;
         Registers {
             a: cpu.a,
             x: cpu.x,
@@ -62,7 +61,7 @@ impl Registers {
             c: bit_if(psw.c, 1),
             page: if psw.p { 256 } else { 0 },
             rest: bit_if(psw.b, 16) + bit_if(psw.i, 4),
-            stop: waking::number_of(state),
+            stop: u8::from(cpu.state),
         }
     }
 

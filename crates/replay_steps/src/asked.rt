@@ -1,8 +1,7 @@
 // What a case asks: a step, or one of the functions on memory. Pointers are those of the first edition, which is the Rust crate's.
-ghost use Rattle.memory.specs.Promises.{Ready};
-
-use crate::case::{at, registers};
+use crate::case::{Case, registers};
 use editions::Edition;
+use memory::{Bus, Reading, Storing};
 use modes::{Addressed, BitRead, WordAddressed};
 use processor::{Processor, Produced, word};
 
@@ -27,15 +26,13 @@ fn found(cpu: Processor, res: u16) -> Answer {
 
 // The answer of a function that found an address, or a pulled word.
 fn address(a: Addressed) -> Answer {
-    let cpu = a.cpu;
-    found(cpu, a.at)
+    found(a.cpu, a.at)
 }
 
 // The answer of `dw`.
 fn addresses(w: WordAddressed) -> Answer {
-    let cpu = w.cpu;
     Answer {
-        cpu,
+        cpu: w.cpu,
         stop: 0,
         result: w.low,
         second: w.high,
@@ -44,152 +41,97 @@ fn addresses(w: WordAddressed) -> Answer {
 
 // The answer of a function that read a byte.
 fn byte(p: Produced) -> Answer {
-    let cpu = p.cpu;
-    found(cpu, p.byte as u16)
+    found(p.cpu, p.byte as u16)
 }
 
 // The answer of `mb`.
 fn bit(b: BitRead) -> Answer {
-    let cpu = b.cpu;
-    if b.bit { found(cpu, 1) } else { found(cpu, 0) }
+    found(b.cpu, b.bit as u16)
 }
 
-// Does what a case asks. Memory and maps of other lengths would get the registers alone; a session lends none.
-pub fn ask(memory: &mut [u8], reads: &mut [u8], writes: &mut [u8], given: &[u8]) -> Answer {
+// Does what a case asks: byte 7 says what.
+pub fn ask(bus: &mut Bus, given: &Case) -> Answer {
     let cpu = registers(given);
-    if memory.len() != 65536 {
-        return found(cpu, 0);
-    }
-    if reads.len() != 8192 {
-        return found(cpu, 0);
-    }
-    if writes.len() != 8192 {
-        return found(cpu, 0);
-    }
-    kind(cpu, memory, reads, writes, given)
-}
-
-// Byte 7 says what is asked.
-fn kind(
-    cpu: Processor,
-    memory: &mut [u8],
-    reads: &mut [u8],
-    writes: &mut [u8],
-    given: &[u8],
-) -> Answer
-    requires { Ready memory.old reads.old writes.old }
-{
-    let number = at(given, 7);
-    match number {
-        0 => step(cpu, memory, reads, writes),
-        1..=13 => address(mode(cpu, memory, reads, writes, number, at(given, 8))),
-        14..=20 => reader(cpu, memory, reads, writes, number, given),
-        _ => writer(cpu, memory, reads, writes, number, given),
+    match given[7] {
+        0 => step(cpu, bus),
+        1..=20 => {
+            let mut reading = Reading {
+                memory: bus.memory,
+                reads: bus.reads,
+                writes: bus.writes,
+            };
+            reader(cpu, &mut reading, given)
+        }
+        _ => {
+            let mut storing = Storing {
+                memory: bus.memory,
+                reads: bus.reads,
+                writes: bus.writes,
+            };
+            writer(cpu, &mut storing, given)
+        }
     }
 }
 
-// A step, and why it stopped.
-fn step(cpu: Processor, memory: &mut [u8], reads: &mut [u8], writes: &mut [u8]) -> Answer {
-    let ran = engine::step(cpu, 1, memory, reads, writes);
-    let after = ran.cpu;
+// A step, and why it stopped. It is not refused: there is a first edition, and the lengths are right.
+fn step(cpu: Processor, bus: &mut Bus) -> Answer {
+    let Ok(ran) = engine::step(cpu, 1, bus.memory, bus.reads, bus.writes) else {
+        return found(cpu, 0);
+    };
     Answer {
-        cpu: after,
-        stop: ran.stop,
+        cpu: ran.cpu,
+        stop: u8::from(ran.cpu.state),
         result: 0,
         second: 0,
     }
 }
 
 // The modes that find one address.
-fn mode(
-    cpu: Processor,
-    memory: &[u8],
-    reads: &mut [u8],
-    writes: &[u8],
-    number: u8,
-    index: u8,
-) -> Addressed
-    requires { Ready memory.now reads.old writes.now }
-{
+fn mode(cpu: Processor, bus: &mut Reading, number: u8, index: u8) -> Addressed {
     match number {
         1 => modes::imm(cpu),
-        2 => modes::d_off(cpu, memory, reads, writes, index),
-        3 => modes::d(cpu, memory, reads, writes),
-        4 => modes::dx(cpu, memory, reads, writes),
-        5 => modes::dy(cpu, memory, reads, writes),
+        2 => modes::d_off(cpu, bus, index),
+        3 => modes::d(cpu, bus),
+        4 => modes::dx(cpu, bus),
+        5 => modes::dy(cpu, bus),
         6 => modes::ix(cpu),
         7 => modes::iy(cpu),
-        8 => modes::idx(cpu, Edition::First, memory, reads, writes),
-        9 => modes::idy(cpu, Edition::First, memory, reads, writes),
-        10 => modes::abs_off(cpu, memory, reads, writes, index),
-        11 => modes::abs(cpu, memory, reads, writes),
-        12 => modes::absx(cpu, memory, reads, writes),
-        _ => modes::absy(cpu, memory, reads, writes),
+        8 => modes::idx(cpu, Edition::First, bus),
+        9 => modes::idy(cpu, Edition::First, bus),
+        10 => modes::abs_off(cpu, bus, index),
+        11 => modes::abs(cpu, bus),
+        12 => modes::absx(cpu, bus),
+        _ => modes::absy(cpu, bus),
     }
 }
 
-// The other functions that read.
-fn reader(
-    cpu: Processor,
-    memory: &[u8],
-    reads: &mut [u8],
-    writes: &[u8],
-    number: u8,
-    given: &[u8],
-) -> Answer
-    requires { Ready memory.now reads.old writes.now }
-{
-    let low = at(given, 8);
-    let argument = word(low, at(given, 9));
-    match number {
-        14 => addresses(modes::dw(cpu, memory, reads, writes)),
-        15 => bit(modes::mb(cpu, memory, reads, writes)),
-        16 => found(cpu, memory::read_u16(memory, reads, writes, argument)),
-        17 => byte(modes::pull_from_stack_u8(cpu, memory, reads, writes)),
-        18 => address(modes::pull_from_stack_u16(cpu, memory, reads, writes)),
-        19 => found(modes::branch_imm(cpu, memory, reads, writes), 0),
-        _ => found(
-            modes::read_and_branch_if(cpu, memory, reads, writes, low != 0),
-            0,
-        ),
+// The functions that read.
+fn reader(cpu: Processor, bus: &mut Reading, given: &Case) -> Answer {
+    let low = given[8];
+    let argument = word(low, given[9]);
+    match given[7] {
+        14 => addresses(modes::dw(cpu, bus)),
+        15 => bit(modes::mb(cpu, bus)),
+        16 => found(cpu, bus.read_u16(argument)),
+        17 => byte(modes::pull_from_stack_u8(cpu, bus)),
+        18 => address(modes::pull_from_stack_u16(cpu, bus)),
+        19 => found(modes::branch_imm(cpu, bus), 0),
+        20 => found(modes::read_and_branch_if(cpu, bus, low != 0), 0),
+        number => address(mode(cpu, bus, number, low)),
     }
 }
 
-// The functions that store.
-fn writer(
-    cpu: Processor,
-    memory: &mut [u8],
-    reads: &[u8],
-    writes: &mut [u8],
-    number: u8,
-    given: &[u8],
-) -> Answer
-    requires { Ready memory.old reads.now writes.old }
-{
-    let low = at(given, 8);
-    let argument = word(low, at(given, 9));
-    match number {
-        21 => write_u16(cpu, memory, reads, writes, argument, at(given, 10)),
-        22 => found(modes::push_to_stack_u8(cpu, memory, reads, writes, low), 0),
-        23 => found(
-            modes::push_to_stack_u16(cpu, memory, reads, writes, argument),
-            0,
-        ),
-        _ => found(modes::call(cpu, memory, reads, writes, argument), 0),
+// The functions that store. The word that is stored alone is a byte of the case, with A as its high byte.
+fn writer(cpu: Processor, bus: &mut Storing, given: &Case) -> Answer {
+    let low = given[8];
+    let argument = word(low, given[9]);
+    match given[7] {
+        21 => {
+            bus.write_u16(argument, word(given[10], cpu.a));
+            found(cpu, 0)
+        }
+        22 => found(modes::push_to_stack_u8(cpu, bus, low), 0),
+        23 => found(modes::push_to_stack_u16(cpu, bus, argument), 0),
+        _ => found(modes::call(cpu, bus, argument), 0),
     }
-}
-
-// The stored word is a byte of the case, with A as its high byte.
-fn write_u16(
-    cpu: Processor,
-    memory: &mut [u8],
-    reads: &[u8],
-    writes: &mut [u8],
-    target: u16,
-    low: u8,
-) -> Answer
-    requires { Ready memory.old reads.now writes.old }
-{
-    memory::write_u16(memory, reads, writes, target, word(low, cpu.a));
-    found(cpu, 0)
 }

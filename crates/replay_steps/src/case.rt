@@ -1,29 +1,23 @@
 // A case: registers, what is asked, arguments, and bytes to put into memory.
+ghost use Rattle.std.specs.Prelude.{◌<◌};
+
+use memory::Memory;
 use processor::{Processor, word};
 use psw::ProgramStatusWord;
 use waking::State;
 
-// The byte at a place, and 0 outside.
-pub fn at(bytes: &[u8], i: usize) -> u8 {
-    if i < bytes.len() { bytes[i] } else { 0 }
-}
-
-// Stores a byte; outside, nothing.
-pub fn set(bytes: &mut [u8], i: usize, byte: u8) {
-    if i < bytes.len() {
-        bytes[i] = byte;
-    }
-}
+// The bytes of a case.
+pub type Case = [u8; 64];
 
 // A X Y SP PC-low PC-high PSW, in the bytes 0 to 6; awake, since the Rust crate's record has no state.
-pub fn registers(given: &[u8]) -> Processor {
+pub fn registers(given: &Case) -> Processor {
     Processor {
-        a: at(given, 0),
-        x: at(given, 1),
-        y: at(given, 2),
-        sp: at(given, 3),
-        pc: word(at(given, 4), at(given, 5)),
-        psw: ProgramStatusWord::from_byte(at(given, 6)),
+        a: given[0],
+        x: given[1],
+        y: given[2],
+        sp: given[3],
+        pc: word(given[4], given[5]),
+        psw: ProgramStatusWord::from_byte(given[6]),
         state: State::Awake,
     }
 }
@@ -36,32 +30,30 @@ pub fn background(address: usize) -> u8 {
 }
 
 // The background everywhere.
-pub fn fill(memory: &mut [u8]) {
+pub fn fill(memory: &mut Memory) {
     for address in 0..65536 {
-        set(memory, address, background(address));
+        memory[address] = background(address);
     }
 }
 
-// Where the k-th of a case's own bytes goes.
-fn place(given: &[u8], k: usize) -> usize {
-    if k < 17 {
-        word(at(given, 11 + k * 3), at(given, 12 + k * 3)) as usize
-    } else {
-        0
-    }
+// Where the k-th of a case's own seventeen bytes goes.
+fn place(given: &Case, k: usize) -> u16
+    requires { k < 17 }
+{
+    word(given[11 + k * 3], given[12 + k * 3])
 }
 
 // Puts a case's own bytes into memory.
-pub fn poke(memory: &mut [u8], given: &[u8]) {
+pub fn poke(memory: &mut Memory, given: &Case) {
     for k in 0..17 {
-        set(memory, place(given, k), at(given, 13 + k * 3));
+        memory[place(given, k) as usize] = given[13 + k * 3];
     }
 }
 
 // Puts the background back.
-pub fn unpoke(memory: &mut [u8], given: &[u8]) {
+pub fn unpoke(memory: &mut Memory, given: &Case) {
     for k in 0..17 {
-        let address = place(given, k);
-        set(memory, address, background(address));
+        let address = place(given, k) as usize;
+        memory[address] = background(address);
     }
 }

@@ -1,17 +1,8 @@
--- A sample is made of the calls that mark its parts; and the invariant of the loop over voices: to mark the samples of the voices that are
--- left from here on gives what marking those of all voices gives.
+-- The invariant of the loop over voices: to mark the samples of the voices that are left from here on gives what marking those of all voices
+-- gives.
 -- Assumes nothing.
 use Rattle.std.proofs.Common.{◌≡◌, ℕ, suc, ◌+◌, ◌-◌, ◌*◌, ◌/◌, ◌%◌, ◌^◌, ◌<◌, ◌≤◌, cond, eqb, List, get_or, sym, ◌∙◌, arith, eq-eqb, ne_eqb, div-one, shr-shr}
-use Rattle.samples.specs.Fetched.{fetched, blocks, word_at, entry_of, sample, voices}
-
--- what the calls leave, one after the other
-pub whole_sample : (directory number : ℕ) (memory writes map : List ℕ) {entry start looped loop : ℕ} {one two three : List ℕ}
-    → entry ≡ entry_of directory number → one ≡ fetched 4 entry writes map
-    → start ≡ word_at memory entry → two ≡ blocks 65536 start memory writes one
-    → looped ≡ (entry + 2) % 65536 → loop ≡ word_at memory looped → three ≡ blocks 65536 loop memory writes two
-    → three ≡ sample directory number memory writes map
-unfolding sample
-whole_sample directory number memory writes map a b c d e f g = rw (g, d, b, f, e, c, a)
+use Rattle.samples.specs.Fetched.{sample, voices}
 
 -- the sample that a voice plays
 abbrev sample_of : List ℕ → ℕ → List ℕ → List ℕ → List ℕ → List ℕ

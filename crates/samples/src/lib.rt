@@ -5,9 +5,7 @@ ghost use Rattle.std.specs.Prelude.{◌≡◌, ◌≤◌, length};
 ghost use Rattle.samples.specs.Fetched.{word_at, fetched, blocks, sample, voices};
 
 use marks::Map;
-
-// The processor's memory.
-type Memory = [u8; 65536];
+use memory::Memory;
 
 // The word at an address, low byte first.
 fn word_at(memory: &Memory, at: u16) -> u16
@@ -17,6 +15,7 @@ fn word_at(memory: &Memory, at: u16) -> u16
 }
 
 // Marks so many addresses from one on, but those that the processor has stored to.
+// (Memory and maps are handed on one by one: a struct of borrows would have to promise of each that it is still the one borrowed.)
 fn fetch(n: u16, at: u16, writes: &Map, map: &mut Map)
     ensures { map.new ≡ fetched n at writes.now map.old }
 {
@@ -40,6 +39,7 @@ fn fetch_blocks(start: u16, memory: &Memory, writes: &Map, map: &mut Map)
 }
 
 // Marks what may be fetched of a sample, given by its number: its entry in the directory, and the blocks from its start and from its loop.
+#[tactic(auto, unfolding(crate::specs::Fetched::sample))]
 fn fetch_sample(directory: u8, number: u8, memory: &Memory, writes: &Map, map: &mut Map)
     ensures { map.new ≡ sample directory number memory.now writes.now map.old }
 {

@@ -1,30 +1,29 @@
 -- What holds of SPC files: which are accepted, that a write keeps to its places, and what comes of reading and writing one after the other.
 -- The one hypothesis is that a file holds bytes, which the code's types give.
 -- Assumes nothing.
-use Rattle.std.specs.Prelude.{ℕ, ◌+◌, ◌-◌, ◌/◌, ◌%◌, ◌<◌, ◌≤◌, ◌≡◌, Bool, ◌⊎◌, length, take, drop}
-use Rattle.std.proofs.Math.Path.{refl}
-use Rattle.std.proofs.Common.{sym, ap, subst, ◌∙◌, inl, inr, ⊎_elim, length-drop, ext_get_or, length-take-le}
-use Rattle.std.proofs.Math.Bool.{true, false}
-use mathlib.Core.List.{List, List-discrete}
-use Rattle.std.proofs.Math.Logic.{if_pos, if_neg}
+use Rattle.std.specs.Prelude.{ℕ, ◌+◌, ◌-◌, ◌/◌, ◌%◌, ◌<◌, ◌≤◌, ◌≡◌, refl, Bool, true, false, ◌⊎◌}
+use Rattle.std.specs.Prelude.{List, Result, Ok, Err, nat_eq, length, get_or, take, drop}
+use Rattle.std.specs.Bool.{Decides}
+use Rattle.std.specs.List.{starts_with}
+use Rattle.std.specs.Result.{result_unwrap_or}
+use Rattle.std.proofs.Common.{sym, ap, subst, ◌∙◌, inl, inr, ⊎_elim, arith, length-drop, ext_get_or, length-take-le}
 use Rattle.std.proofs.Math.Decide.{ℕ_discrete, dec_le}
-use native.Mathlib.Omega.{arith}
-use Rattle.std.proofs.Math.ListN.{get_or}
-use Rattle.std.proofs.lemmas.List.Edits.{sets}
 use Rattle.std.proofs.Math.Seq.{length-sets}
+use Rattle.std.proofs.lemmas.List.Edits.{sets}
+use Rattle.std.proofs.lemmas.Slice.Eq.{bytes_eq-Decides}
 use borrow.Author.Tests.{eq-eqb, ne_eqb}
 use Rattle.laws.specs.Bytes.{Bytes}
 use Rattle.laws.specs.Filled.{Filled, filled}
 use Rattle.laws.specs.Stored.{other_place, stored_place, before_stored, stored_part, standing_stays, stored_again}
+use Rattle.refusals.specs.declared.Refusal.{Refusal}
 use Rattle.waking.specs.States.{is_awake}
 use Rattle.psw.specs.Theorems.{byte_to_flags_and_back, flags_to_byte_and_back}
 use Rattle.processor.specs.Record.{woken, word_of}
 use Rattle.processor.specs.Theorems.{woken_again}
 use Rattle.processor.specs.declared.Processor.{Processor}
 use Rattle.spc_file.specs.Layout.{signature, record_in, record_bytes, memory_in, laid}
-use Rattle.spc_file.specs.Calls.{refusal_of, file_read, read_of, memory_of, write_refusal, write_of}
+use Rattle.spc_file.specs.Calls.{refusal_of, read_of, memory_of, write_refusal, write_of}
 use Rattle.spc_file.specs.Refused.{not_refused, answers}
-use Rattle.spc_file.specs.declared.FileRead.{FileRead}
 
 -- ---- which files are accepted
 
@@ -32,40 +31,52 @@ pub record Accepted (file : List ℕ) : Type 0 where
   pub size : length file ≡ 66048
   pub begins : take 33 file ≡ signature
 
+-- The test of the beginning passes exactly if the first 33 bytes are the signature.
+begins_decides : (file : List ℕ) → Decides (starts_with nat_eq file signature) (take 33 file ≡ signature)
+unfolding signature
+begins_decides file = let tells = bytes_eq-Decides signature (take 33 file) in (λ t. sym (tells.0 t), λ e. tells.1 (sym e))
+
 -- A file is accepted if it has the length and begins with the signature,
-pub accepts : {file : List ℕ} → Accepted file → refusal_of file ≡ 0
-unfolding refusal_of
-accepts {file} a =
-    rw (eq-eqb _ _ a.size) (if_pos (List-discrete ℕ_discrete (take 33 file) signature) a.begins 0 8)
+pub accepts : {file : List ℕ} → Accepted file → refusal_of file ≡ Ok tt
+accepts {file} a = rw (eq-eqb _ _ a.size, (begins_decides file).1 a.begins)
 
 -- and only then.
-pub accepted : {file : List ℕ} → refusal_of file ≡ 0 → Accepted file
-unfolding refusal_of
-accepted {file} e = go (ℕ_discrete (length file) 66048) (List-discrete ℕ_discrete (take 33 file) signature)
+pub accepted : {file : List ℕ} → refusal_of file ≡ Ok tt → Accepted file
+accepted {file} e = go (ℕ_discrete (length file) 66048) (starts_with nat_eq file signature) refl
   where
-    go : Dec (length file ≡ 66048) → Dec (take 33 file ≡ signature) → Accepted file
-    go (yes size) (yes begins) = record { size = size; begins = begins }
-    go (yes size) (no n) =
-        let others = if_neg {C = ℕ} (List-discrete ℕ_discrete (take 33 file) signature) n 0 8 in
-        absurd (omega (arith, rw (eq-eqb _ _ size, others) at e))
-    go (no n) begins = absurd (omega (arith, rw (ne_eqb _ _ n) at e))
+    go : Dec (length file ≡ 66048) → (b : Bool) → starts_with nat_eq file signature ≡ b → Accepted file
+    go (yes size) true t = record { size = size; begins = (begins_decides file).0 t }
+    go (yes size) false t = let other = rw (eq-eqb _ _ size, t) at e in cc
+    go (no n) b t = let other = rw (ne_eqb _ _ n) at e in cc
 
 -- What reading then gives: the record,
-pub gives_record : (file : List ℕ) → refusal_of file ≡ 0 → read_of file ≡ file_read 0 (record_in file)
-gives_record file z = rw (eq-eqb _ _ z)
-
--- which is awake, as it is where it is refused,
-pub gives_awake : (file : List ℕ) → is_awake (read_of file).cpu.state ≡ true
-unfolding record_in
-gives_awake file =
-    elim (ℕ_discrete (refusal_of file) 0) [
-      | yes z ↦ rw (eq-eqb _ _ z)
-      | no n ↦ rw (ne_eqb _ _ n)
-    ]
+pub gives_record : (file : List ℕ) → refusal_of file ≡ Ok tt → read_of file ≡ Ok (record_in file)
+gives_record file z = rw z
 
 -- and the memory.
-pub gives_part : (file : List ℕ) → refusal_of file ≡ 0 → memory_of file ≡ memory_in file
-gives_part file z = rw (eq-eqb _ _ z)
+pub gives_part : (file : List ℕ) → refusal_of file ≡ Ok tt → memory_of file ≡ memory_in file
+gives_part file z = rw z
+
+-- A record that reading gives is that of an accepted file, and a refusal is the file's own.
+module _ (file : List ℕ) where
+  pub given : {cpu : Processor} → read_of file ≡ Ok cpu → (refusal_of file ≡ Ok tt) × (record_in file ≡ cpu)
+  given {cpu} e = go (refusal_of file) refl
+    where
+      go : (r : Result Unit Refusal) → refusal_of file ≡ r → (refusal_of file ≡ Ok tt) × (record_in file ≡ cpu)
+      go (Ok x) z = let same = rw z at e in (z, cc)
+      go (Err refusal) z = let other = rw z at e in cc
+
+  pub not_given : {refusal : Refusal} → read_of file ≡ Err refusal → refusal_of file ≡ Err refusal
+  not_given {refusal} e = go (refusal_of file) refl
+    where
+      go : (r : Result Unit Refusal) → refusal_of file ≡ r → refusal_of file ≡ Err refusal
+      go (Ok x) z = let other = rw z at e in cc
+      go (Err d) z = let same = rw z at e in cc
+
+-- Such a record is awake.
+pub gives_awake : (file : List ℕ) (cpu : Processor) → read_of file ≡ Ok cpu → is_awake cpu.state ≡ true
+unfolding record_in
+gives_awake file cpu e = let own = (given file e).1 in rw (← own) refl
 
 -- The memory of an accepted file is a whole one.
 pub memory_size : {file : List ℕ} → Accepted file → length (memory_in file) ≡ 65536
@@ -81,25 +92,23 @@ pub record Writable (cpu : Processor) (memory file : List ℕ) : Type 0 where
 
 module _ (cpu : Processor) (memory file : List ℕ) where
   -- It is accepted then,
-  pub writes : Writable cpu memory file → write_refusal cpu memory file ≡ 0
-  unfolding write_refusal
-  writes w = rw (eq-eqb _ _ (accepts w.accepted), eq-eqb _ _ w.size, w.awake)
+  pub writes : Writable cpu memory file → write_refusal cpu memory file ≡ Ok tt
+  writes w = rw (accepts w.accepted, eq-eqb _ _ w.size, w.awake)
 
   -- and only then.
-  pub written : write_refusal cpu memory file ≡ 0 → Writable cpu memory file
-  unfolding write_refusal
-  written e = go (ℕ_discrete (refusal_of file) 0) (ℕ_discrete (length memory) 65536) (is_awake cpu.state) refl
+  pub written : write_refusal cpu memory file ≡ Ok tt → Writable cpu memory file
+  written e = go (refusal_of file) refl (ℕ_discrete (length memory) 65536) (is_awake cpu.state) refl
     where
-      go : Dec (refusal_of file ≡ 0) → Dec (length memory ≡ 65536) → (b : Bool) → is_awake cpu.state ≡ b → Writable cpu memory file
-      go (yes z) (yes size) true awake = record { accepted = accepted z; size = size; awake = awake }
-      go (yes z) (yes size) false rest = absurd (omega (arith, rw (eq-eqb _ _ z, eq-eqb _ _ size, rest) at e))
-      go (yes z) (no n) b f = absurd (omega (arith, rw (eq-eqb _ _ z, ne_eqb _ _ n) at e))
-      go (no n) size b f = absurd (n (rw (ne_eqb _ _ n) at e))
+      go : (r : Result Unit Refusal) → refusal_of file ≡ r → Dec (length memory ≡ 65536) → (b : Bool) → is_awake cpu.state ≡ b
+          → Writable cpu memory file
+      go (Ok x) z (yes size) true awake = record { accepted = accepted z; size = size; awake = awake }
+      go (Ok x) z (yes size) false rest = let other = rw (z, eq-eqb _ _ size, rest) at e in cc
+      go (Ok x) z (no n) b f = let other = rw (z, ne_eqb _ _ n) at e in cc
+      go (Err refusal) z size b f = let other = rw z at e in cc
 
-  -- A file that reading refuses is refused by a write with the same number, and stays as it was.
-  pub refused_file : (refusal_of file ≡ 0 → ⊥) → write_of cpu memory file ≡ filled (refusal_of file) file
-  unfolding write_refusal
-  refused_file n = rw (ne_eqb _ _ n, ne_eqb _ _ n)
+  -- A file that reading refuses is refused by a write for the same reason, and stays as it was.
+  pub refused_file : {refusal : Refusal} → refusal_of file ≡ Err refusal → write_of cpu memory file ≡ filled (Err refusal) file
+  refused_file z = rw z
 
 -- the places to which it stores
 abbrev pub Stored : ℕ → Type 0
@@ -138,17 +147,17 @@ module _ (cpu : Processor) (memory file : List ℕ) where
   laid_memory whole size i h = stored_place memory (sets file 37 (record_bytes cpu)) 256 i (rw length-sets (omega arith)) (omega arith)
 
   -- Accepted, it leaves record and memory in their places.
-  pub lays : write_refusal cpu memory file ≡ 0 → write_of cpu memory file ≡ filled 0 (laid cpu memory file)
+  pub lays : write_refusal cpu memory file ≡ Ok tt → write_of cpu memory file ≡ filled (Ok tt) (laid cpu memory file)
   lays z = not_refused (write_refusal cpu memory file) (laid cpu memory file) file z
 
   -- what holds of the file as it was, and with record and memory in it where they are accepted, holds of the file that is left
-  of_what_is_left : (P : List ℕ → Type 0) → P file → (write_refusal cpu memory file ≡ 0 → P (laid cpu memory file))
+  of_what_is_left : (P : List ℕ → Type 0) → P file → (write_refusal cpu memory file ≡ Ok tt → P (laid cpu memory file))
       → P (write_of cpu memory file).left
-  of_what_is_left P as_it_was accepted = go (ℕ_discrete (write_refusal cpu memory file) 0)
+  of_what_is_left P as_it_was laid_there = go (write_refusal cpu memory file) refl
     where
-      go : Dec (write_refusal cpu memory file ≡ 0) → P (write_of cpu memory file).left
-      go (yes z) = rw (eq-eqb _ _ z) (accepted z)
-      go (no n) = rw (ne_eqb _ _ n) as_it_was
+      go : (r : Result Unit Refusal) → write_refusal cpu memory file ≡ r → P (write_of cpu memory file).left
+      go (Ok x) z = rw z (laid_there z)
+      go (Err refusal) z = rw z as_it_was
 
   -- Whatever it answers, every other byte of the file stays,
   pub others_stay : (at : ℕ) → (Stored at → ⊥) → get_or (write_of cpu memory file).left at 0 ≡ get_or file at 0
@@ -205,22 +214,25 @@ module _ (file : List ℕ) (bytes : Bytes file) where
   unfolding record_in
   own_record a = record { accepted = a; size = memory_size a; awake = refl }
 
-  -- Reading a file and then writing into it what was read changes nothing; a file that is refused is refused both times, with one number.
-  pub read_then_write : write_of (read_of file).cpu (memory_of file) file ≡ filled (refusal_of file) file
-  read_then_write = go (ℕ_discrete (refusal_of file) 0)
+  -- Reading a file and then writing into it what was read changes nothing; a file that is refused is refused both times, for one reason,
+  -- whatever record is there in place of the one that it does not give.
+  pub read_then_write : (other : Processor)
+      → write_of (result_unwrap_or (read_of file) other) (memory_of file) file ≡ filled (refusal_of file) file
+  read_then_write other = go (refusal_of file) refl
     where
-      go : Dec (refusal_of file ≡ 0) → write_of (read_of file).cpu (memory_of file) file ≡ filled (refusal_of file) file
-      go (yes z) =
-          ap (λ (f : FileRead). write_of f.cpu (memory_of file) file) (gives_record file z)
+      go : (r : Result Unit Refusal) → refusal_of file ≡ r
+          → write_of (result_unwrap_or (read_of file) other) (memory_of file) file ≡ filled (refusal_of file) file
+      go (Ok x) z =
+          ap (λ (r : Result Processor Refusal). write_of (result_unwrap_or r other) (memory_of file) file) (gives_record file z)
           ∙ ap (λ (m : List ℕ). write_of (record_in file) m file) (gives_part file z)
           ∙ lays (record_in file) (memory_in file) file (writes (record_in file) (memory_in file) file (own_record (accepted z)))
-          ∙ ap (λ (l : List ℕ). filled 0 l) (same_file (accepted z))
-          ∙ ap (λ (n : ℕ). filled n file) (sym z)
-      go (no n) = refused_file (read_of file).cpu (memory_of file) file n
+          ∙ ap (λ (l : List ℕ). filled (Ok tt) l) (same_file (accepted z))
+          ∙ ap (λ (r : Result Unit Refusal). filled r file) (sym z)
+      go (Err refusal) z = rw z
 
 -- what reading gives of a file in which this record and this memory stand
 pub record GivesBack (cpu : Processor) (memory file : List ℕ) : Type 0 where
-  pub read : read_of file ≡ file_read 0 cpu
+  pub read : read_of file ≡ Ok cpu
   pub part : memory_of file ≡ memory
 
 module _ (cpu : Processor) (memory file : List ℕ) where
@@ -263,14 +275,14 @@ module _ (cpu : Processor) (memory file : List ℕ) where
 
     laid_gives_back : GivesBack (woken cpu) memory (laid cpu memory file)
     laid_gives_back = record {
-      read = gives_record (laid cpu memory file) (accepts still_accepted) ∙ ap (λ (c : Processor). file_read 0 c) same_registers;
+      read = gives_record (laid cpu memory file) (accepts still_accepted) ∙ ap (λ (c : Processor). Ok c) same_registers;
       part = gives_part (laid cpu memory file) (accepts still_accepted) ∙ same_memory;
     }
 
   -- Writing and then reading gives back what was written.
-  pub write_then_read : (write_of cpu memory file).answer ≡ 0 → GivesBack cpu memory (write_of cpu memory file).left
+  pub write_then_read : (write_of cpu memory file).answer ≡ Ok tt → GivesBack cpu memory (write_of cpu memory file).left
   write_then_read e =
       let z = sym (answers (write_refusal cpu memory file) (laid cpu memory file) file) ∙ e in
       let w = written cpu memory file z in
-      subst (λ (o : Filled ℕ). GivesBack cpu memory o.left) (sym (lays cpu memory file z))
+      subst (λ (o : Filled (Result Unit Refusal)). GivesBack cpu memory o.left) (sym (lays cpu memory file z))
       (subst (λ (c : Processor). GivesBack c memory (laid cpu memory file)) (woken_again cpu w.awake) (laid_gives_back w.accepted w.size))

@@ -9,17 +9,37 @@ use native.Mathlib.Omega.{arith}
 use native.Mathlib.Decide.{ℕ_discrete}
 use lib.Bits.{bit_and, bit_or, or_zero_r}
 use lib.Dec.{eqb}
-use lib.ListN.{get_or}
+use lib.ListN.{length, get_or}
 use lib.Seq.{get_or-set_same, get_or-set_other}
 use borrow.Author.Tests.{eq-eqb, ne_eqb}
 use Rattle.marks.specs.Maps.{is_marked, marked}
-use Rattle.marks.proofs.Laws.{either_bit, less_bits}
-use Rattle.memory.specs.World.{World, Sized}
+use Rattle.marks.proofs.Laws.{either_bit, less_bits, length_marked}
+use Rattle.memory.specs.World.{World, world}
 use Rattle.memory.specs.Access.{Access, perform}
 use Rattle.runs.specs.Trace.{Event, events}
 use Rattle.runs.specs.Trace.Event.{read, store}
-use Rattle.runs.proofs.Trace.{effect, replay, replays, sized_effect, perform_unmapped}
+use Rattle.runs.proofs.Trace.{effect, replay, replays, perform_unmapped}
 use Rattle.watch.specs.Bits.{is_set, or_assoc, and_or}
+
+-- Both maps have their lengths, whatever the memory's is; accesses leave them.
+pub record Maps (w : World) : Type 0 where
+  pub reads : length w.reads ≡ 8192
+  pub writes : length w.writes ≡ 8192
+
+maps_effect : (e : Event) (w : World) → Maps w → Maps (effect e w)
+maps_effect (read a) w s = go (is_marked w.writes a)
+  where
+    go : (b : Bool) → Maps (world w.memory (cond b w.reads (marked w.reads a)) w.writes)
+    go true = record { reads = s.reads; writes = s.writes }
+    go false = record { reads = rw length_marked s.reads; writes = s.writes }
+maps_effect (store a x) w s = record { reads = s.reads; writes = rw length_marked s.writes }
+
+maps_replay : (t : List Event) (w : World) → Maps w → Maps (replay t w)
+maps_replay [] w s = s
+maps_replay (e ∷ t) w s = maps_replay t (effect e w) (maps_effect e w s)
+
+pub maps_left : {R : Type 0} (p : Access R) (w : World) → Maps w → Maps (perform p w).left
+maps_left p w s = rw replays (maps_replay (events p w) w s)
 
 -- one byte of both maps
 pub record Both : Type 0 where
@@ -49,7 +69,7 @@ touches i [] b = b
 touches i (e ∷ t) b = touches i t (touch i e b)
 
 module _ (i : ℕ) (h : i < 8192) where
-  touch_effect : (e : Event) (w : World) → Sized w → byte_of i (effect e w) ≡ touch i e (byte_of i w)
+  touch_effect : (e : Event) (w : World) → Maps w → byte_of i (effect e w) ≡ touch i e (byte_of i w)
   touch_effect (read a) w s = go (ℕ_discrete i (a / 8)) (is_marked w.writes a) refl
     where
       go : Dec (i ≡ a / 8) → (b : Bool) → is_marked w.writes a ≡ b
@@ -64,9 +84,9 @@ module _ (i : ℕ) (h : i < 8192) where
       go (yes q) = rw (q, eq-eqb (a / 8) (a / 8) refl, get_or-set_same w.writes (a / 8) _ 0 (omega arith))
       go (no q) = rw (ne_eqb (a / 8) i (λ r. q (sym r)), get_or-set_other w.writes (a / 8) i _ 0 q)
 
-  touches_replay : (t : List Event) (w : World) → Sized w → byte_of i (replay t w) ≡ touches i t (byte_of i w)
+  touches_replay : (t : List Event) (w : World) → Maps w → byte_of i (replay t w) ≡ touches i t (byte_of i w)
   touches_replay [] w s = refl
-  touches_replay (e ∷ t) w s = touches_replay t (effect e w) (sized_effect e w s) ∙ ap (touches i t) (touch_effect e w s)
+  touches_replay (e ∷ t) w s = touches_replay t (effect e w) (maps_effect e w s) ∙ ap (touches i t) (touch_effect e w s)
 
 -- ---- from a byte of zero to any other
 
@@ -110,8 +130,8 @@ module _ (i : ℕ) (before : Both) (h : before.stored < 256) where
 
 -- ---- the accesses of a step
 
-module _ {R : Type 0} (p : Access R) (i : ℕ) (h : i < 8192) (v w : World) (s : Sized v) (t : Sized w) (e : v.memory ≡ w.memory) where
-  through : (u : World) → Sized u → events p u ≡ events p w → byte_of i (perform p u).left ≡ touches i (events p w) (byte_of i u)
+module _ {R : Type 0} (p : Access R) (i : ℕ) (h : i < 8192) (v w : World) (s : Maps v) (t : Maps w) (e : v.memory ≡ w.memory) where
+  through : (u : World) → Maps u → events p u ≡ events p w → byte_of i (perform p u).left ≡ touches i (events p w) (byte_of i u)
   through u sized same = rw (replays, ← same) (touches_replay i h (events p u) u sized)
 
   -- the same byte before, and so the same byte after

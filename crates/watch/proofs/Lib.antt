@@ -2,4 +2,3 @@ pub mod Byte
 pub mod Maps
 pub mod Step
 pub mod SoFar
-pub mod Begun

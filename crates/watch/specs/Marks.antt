@@ -1,10 +1,11 @@
 -- The marks of the device addresses in a map as one number: set aside for a step, and put back behind it.
-use Rattle.std.specs.Prelude.{ℕ, ◌-◌, ◌/◌, ◌%◌, ◌<◌, List, ◌≡◌, get_or, set}
+use Rattle.std.specs.Prelude.{ℕ, ◌-◌, ◌/◌, ◌%◌, ◌<◌, List, ◌≡◌, length, get_or, set}
 use Rattle.std.specs.Int.Bits.{bit_and, bit_or}
 use Rattle.watch.specs.Devices.{devices_of}
 
--- A number that holds these marks of a map: two bytes of it.
+-- A number that holds these marks of a map, which has its length: two bytes of it.
 pub record Marks (map : List ℕ) (marks : ℕ) : Type 0 where
+  pub size : length map ≡ 8192
   pub all : marks ≡ devices_of map
   pub low : marks % 256 ≡ get_or map 30 0
   pub high : marks / 256 ≡ get_or map 31 0

@@ -2,18 +2,20 @@
 // marks no read behind a store, and a device's answer is not what was stored there last.
 #![tactic(auto)]
 
-ghost use Rattle.std.specs.Prelude.{◌≡◌, true, length};
+ghost use Rattle.std.specs.Prelude.{◌≡◌};
 ghost use Rattle.laws.specs.Lent.{lent};
-ghost use Rattle.waking.specs.States.{number_of};
-ghost use Rattle.memory.specs.Promises.{Ready, Yields};
-ghost use Rattle.editions.specs.Editions.{is_edition};
-ghost use Rattle.watch.specs.Calls.{watched_run};
+ghost use Rattle.memory.specs.Promises.{Answers, Yields};
+ghost use Rattle.watch.specs.Calls.{watching, watched_run};
 ghost use Rattle.watch.specs.Marks.{Marks, SetAside, PutBack, with_marks};
 
+use editions::Edition;
 use engine::Ran;
+use marks::Map;
+use memory::{Bus, Memory};
 use processor::Processor;
+use refusals::Refusal;
 
-// What a run answers, and which device addresses its steps read: the bit of value 2^j stands for 00F0 + j. Refused, none.
+// What a run answers, and which device addresses its steps read: the bit of value 2^j stands for 00F0 + j.
 #[derive(Drop)]
 pub struct Watched {
     pub ran: Ran,
@@ -21,20 +23,19 @@ pub struct Watched {
 }
 
 // The marks of the device addresses in a map: its bytes 30 and 31.
-pub fn marks_of(map: &[u8]) -> u16
-    requires { length map.now ≡ 8192 }
+pub fn marks_of(map: &Map) -> u16
     ensures { Marks map.now result }
 {
-    map[30] as u16 + 256 * map[31] as u16
+    u16::from_le_bytes([map[30], map[31]])
 }
 
 // Puts marks in the place of these.
-pub fn put_marks(map: &mut [u8], marks: u16)
-    requires { length map.old ≡ 8192 }
+pub fn put_marks(map: &mut Map, marks: u16)
     ensures { map.new ≡ with_marks map.old marks }
 {
-    map[30] = (marks % 256) as u8;
-    map[31] = (marks / 256) as u8;
+    let [low, high] = marks.to_le_bytes();
+    map[30] = low;
+    map[31] = high;
 }
 
 // The marks of the device addresses in both maps.
@@ -45,8 +46,7 @@ struct Aside {
 }
 
 // Takes them out of the maps.
-fn set_aside(reads: &mut [u8], writes: &mut [u8]) -> Aside
-    requires { (length reads.old ≡ 8192) × (length writes.old ≡ 8192) }
+fn set_aside(reads: &mut Map, writes: &mut Map) -> Aside
     ensures { SetAside reads.old writes.old result.read result.stored reads.new writes.new }
 {
     let read = marks_of(reads);
@@ -58,69 +58,63 @@ fn set_aside(reads: &mut [u8], writes: &mut [u8]) -> Aside
 
 // Puts them back, and answers what the read map has marked since. Of that it keeps what had not been stored to before, as if the marks had
 // never been away.
-fn put_back(read: u16, stored: u16, reads: &mut [u8], writes: &mut [u8]) -> u16
-    requires { (length reads.old ≡ 8192) × (length writes.old ≡ 8192) }
-    ensures { PutBack reads.old writes.old read stored result reads.new writes.new }
+fn put_back(aside: Aside, reads: &mut Map, writes: &mut Map) -> u16
+    ensures { PutBack reads.old writes.old aside.read aside.stored result reads.new writes.new }
 {
     let devices = marks_of(reads);
     let since = marks_of(writes);
-    put_marks(reads, read | (devices & !stored));
-    put_marks(writes, stored | since);
+    put_marks(reads, aside.read | (devices & !aside.stored));
+    put_marks(writes, aside.stored | since);
     devices
 }
 
 // One step, with the marks of the device addresses set aside for it.
-fn turn(
-    cpu: Processor,
-    edition: u8,
-    memory: &mut [u8],
-    reads: &mut [u8],
-    writes: &mut [u8],
-) -> Watched
-    requires { Ready memory.old reads.old writes.old × (is_edition edition ≡ true) }
-    ensures { Yields (watched_run edition 1 cpu) (lent memory) (lent reads) (lent writes) result }
+fn turn(cpu: Processor, edition: Edition, bus: &mut Bus) -> Watched
+    ensures { Answers (watching edition 1 cpu) bus.old bus.new result }
 {
-    let aside = set_aside(reads, writes);
-    let ran = engine::step(cpu, edition, memory, reads, writes);
-    let devices = put_back(aside.read, aside.stored, reads, writes);
+    let aside = set_aside(bus.reads, bus.writes);
+    let ran = engine::take_steps(cpu, edition, bus, 1);
+    let devices = put_back(aside, bus.reads, bus.writes);
     Watched { ran, devices }
 }
 
-// Steps while budget is left and the record is awake, from a record whose state has the number `state`.
-fn take_steps(
-    cpu: Processor,
-    edition: u8,
-    memory: &mut [u8],
-    reads: &mut [u8],
-    writes: &mut [u8],
-    budget: u32,
-    state: u8,
-) -> Watched
-    requires { Ready memory.old reads.old writes.old × (is_edition edition ≡ true) × (state ≡ number_of cpu.state) }
-    ensures { Yields (watched_run edition budget cpu) (lent memory) (lent reads) (lent writes) result }
+// Steps while budget is left and the record is awake.
+fn take_steps(cpu: Processor, edition: Edition, bus: &mut Bus, budget: u32) -> Watched
+    ensures { Answers (watching edition budget cpu) bus.old bus.new result }
 {
     let mut next = cpu;
-    let mut stop = state;
     let mut left: u32 = budget;
     let mut devices: u16 = 0;
-    while left > 0 && stop == 0 {
-        let turned = turn(next, edition, memory, reads, writes);
-        let ran = turned.ran;
-        next = ran.cpu;
-        stop = ran.stop;
+    while left > 0 && next.is_awake() {
+        let turned = turn(next, edition, bus);
+        next = turned.ran.cpu;
         devices = devices | turned.devices;
         left = left - 1;
     }
     let steps = budget - left;
     Watched {
-        ran: Ran {
-            refusal: 0,
-            cpu: next,
-            steps,
-            stop,
-        },
+        ran: Ran { cpu: next, steps },
         devices,
     }
+}
+
+// The same, on memory and maps that are lent one by one.
+fn run_within(
+    cpu: Processor,
+    edition: Edition,
+    memory: &mut Memory,
+    reads: &mut Map,
+    writes: &mut Map,
+    budget: u32,
+) -> Watched
+    ensures { Yields (watching edition budget cpu) (lent memory) (lent reads) (lent writes) result }
+{
+    let mut bus = Bus {
+        memory,
+        reads,
+        writes,
+    };
+    take_steps(cpu, edition, &mut bus, budget)
 }
 
 // A run as the engine makes it, step by step. Before each step the marks of the device addresses are set aside, so that a read of one
@@ -132,15 +126,18 @@ pub fn run(
     reads: &mut [u8],
     writes: &mut [u8],
     budget: u32,
-) -> Watched
+) -> Result<Watched, Refusal>
     ensures { Yields (watched_run edition budget cpu) (lent memory) (lent reads) (lent writes) result }
 {
-    let begun = engine::run(cpu, edition, memory, reads, writes, 0);
-    if begun.refusal != 0 {
-        return Watched {
-            ran: begun,
-            devices: 0,
-        };
-    }
-    take_steps(cpu, edition, memory, reads, writes, budget, begun.stop)
+    let edition = Edition::try_from(edition)?;
+    let Some(memory) = memory.as_mut_array::<65536>() else {
+        return Err(Refusal::Memory);
+    };
+    let Some(reads) = reads.as_mut_array::<8192>() else {
+        return Err(Refusal::Map);
+    };
+    let Some(writes) = writes.as_mut_array::<8192>() else {
+        return Err(Refusal::Map);
+    };
+    Ok(run_within(cpu, edition, memory, reads, writes, budget))
 }

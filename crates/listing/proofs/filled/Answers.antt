@@ -1,15 +1,17 @@
--- The count says how many modes the list has: from 3 up it is all three.
+-- Added up is what each mode fills, which is never more than two bytes.
 -- Assumes nothing.
-use Rattle.std.proofs.Common.{refl, arith, rules}
-use Rattle.opcode_data.proofs.Lists.{sum_one, sum_two, sum_three}
+use Rattle.std.proofs.Common.{◌≡◌, ◌≤◌, sum_by, refl, arith, rules}
+use Rattle.opcode_data.specs.declared.AddressMode.{AddressMode}
+use Rattle.opcode_data.proofs.Lists.{summed, two_each}
 use Rattle.listing.specs.Operands.{fills, filled}
 use Rattle.listing.proofs.filled.Goals as goal
 
-pub returns-in-1 : goal.returns-in-1
-returns-in-1 c = (search (rules, sum_one fills filled refl (λ m ms. refl)), omega arith)
+at_most_two : (m : AddressMode) → fills m ≤ 2
+at_most_two m = grind arith
 
-pub returns-in-2 : goal.returns-in-2
-returns-in-2 c = (search (rules, sum_two fills filled refl (λ m ms. refl)), omega arith)
-
-pub returns-in_default : goal.returns-in_default
-returns-in_default c = (search (rules, sum_three fills filled refl (λ m ms. refl)), omega arith)
+pub returns : goal.returns
+returns c =
+    let ms = c.args.modes.now in
+    let added : c.sum.result ≡ sum_by fills ms = search rules in
+    let all = summed fills filled refl (λ m ms. refl) ms in
+    (cc, omega (arith, two_each fills filled refl (λ m ms. refl) at_most_two ms))

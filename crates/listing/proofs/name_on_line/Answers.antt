@@ -1,36 +1,26 @@
--- The line so far with the letters that are left behind it is always the first line with all the letters behind it.
+-- Each letter of the name is pushed behind those before it, and no blank.
 -- Assumes nothing.
-use Rattle.std.proofs.Common.{◌≡◌, ℕ, ◌+◌, ◌<◌, ◌≤◌, List, length, get_or, drop, refl, add-one, arith, drop-cons, rules, ne_eqb}
-use Prim.Native.Char.{code}
-use lib.Seq.{drop-length}
-use Rattle.text.specs.Line.{pushed, adds}
-use Rattle.text.specs.declared.Line.{Line}
+use Rattle.std.proofs.Common.{◌≡◌, ℕ, not, eqb, List, [], ◌∷◌, Bool, true, false, cond, filter, refl, ap, rules}
+use borrow.Author.Tests.{tests}
+use Rattle.std.proofs.lemmas.Iterator.{YieldsList-from_slice}
+use Rattle.std.proofs.lemmas.Iterator.Consumers.{YieldsList-from_filter, YieldsList-at}
+use Rattle.text.proofs.Laws.{pushed_each}
 use Rattle.listing.specs.Instruction.{letters}
 use Rattle.listing.proofs.name_on_line.Goals as goal
-use Rattle.listing.proofs.name_on_line.Goals.{else-name-i-ne32, then-name-i-ne32}
 
--- what is so on the line, with the letters behind place i, is the same with those behind the next: a letter is put on it, a blank is not
-module _ (name : List ℕ) (i : ℕ) (five : length name ≡ 5) (h : i < 5) (l₀ l r : Line) where
-  put : (m : Line) → r ≡ m → m ≡ pushed l (get_or name i 0) → (get_or name i 0 ≡ code " " → ⊥)
-      → adds l (letters (drop i name)) ≡ adds l₀ (letters name) → adds r (letters (drop (i + 1) name)) ≡ adds l₀ (letters name)
-  unfolding adds
-  put m p q letter e = rw (p, q, add-one) (rw (drop-cons name i 0 (omega arith), ne_eqb _ _ letter) at e)
-
-  skip : r ≡ l → get_or name i 0 ≡ code " " → adds l (letters (drop i name)) ≡ adds l₀ (letters name)
-      → adds r (letters (drop (i + 1) name)) ≡ adds l₀ (letters name)
-  skip p blank e = rw (p, add-one) (rw (drop-cons name i 0 (omega arith), blank) at e)
-
--- behind the last place no letter is left
-all_put : (name : List ℕ) (i : ℕ) (l r : Line) → length name ≡ 5 → 5 ≤ i → i ≤ 5 → adds r (letters (drop i name)) ≡ adds l (letters name)
-    → r ≡ adds l (letters name)
-unfolding adds
-all_put name i l r five g h e = let all : i ≡ length name = omega arith in rw (all, drop-length) at e
-
-pub loop-i-init : goal.loop-i-init
-loop-i-init c = (omega arith, refl)
-
-pub loop-i-preserved : goal.loop-i-preserved
-loop-i-preserved c = (omega arith, elim c.if-name-i-ne32.branch [ then-name-i-ne32 w ↦ search (rules, put) | else-name-i-ne32 w ↦ search (rules, skip) ])
+-- the letters as a filter has them
+filtered : (cs : List ℕ) → filter (λ c. not (eqb c 32)) cs ≡ letters cs
+filtered [] = refl
+filtered (c ∷ cs) = go (eqb c 32) (filtered cs)
+  where
+    go : (blank : Bool) {more rest : List ℕ} → more ≡ rest → cond (not blank) (c ∷ more) more ≡ cond blank rest (c ∷ rest)
+    go true e = e
+    go false e = ap (λ l. c ∷ l) e
 
 pub returns : goal.returns
-returns c = search (rules, all_put)
+returns c =
+    rw filtered
+    at (pushed_each _ _ (λ m n x left called. search rules)
+    (YieldsList-from_filter _ (λ c. not (eqb c 32))
+    (YieldsList-at c.filter.ensures.source (YieldsList-from_slice _ c.iter.ensures.rest)) c.filter.ensures.closure (λ x r q k. search (rules, tests)))
+    c.fold.ensures.ran)

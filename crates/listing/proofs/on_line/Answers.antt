@@ -1,7 +1,7 @@
 -- No operands are no modes, and then no blank: the name is all. Otherwise a blank and the text of the modes stand behind it, with the two
 -- operand bytes exchanged in the branches on the direct page.
 -- Assumes nothing.
-use Rattle.std.proofs.Common.{◌≡◌, ℕ, zero, suc, ◌+◌, ◌<◌, ◌≤◌, Bool, true, false, T, List, [], ◌∷◌, ◌++◌, length, take, sym, refl, ◌∙◌, append-nil, arith, w8, Fits, rules}
+use Rattle.std.proofs.Common.{◌≡◌, ℕ, ◌+◌, ◌<◌, ◌≤◌, Bool, true, false, T, List, [], ◌∷◌, ◌++◌, length, length-take, sym, refl, ◌∙◌, append-nil, arith, w8, Fits, rules}
 use Prim.Native.Char.{code}
 use Rattle.laws.specs.Table.{where_same}
 use Rattle.text.specs.Line.{pushed, adds}
@@ -11,6 +11,7 @@ use Rattle.text.proofs.Laws.{and_byte, then_text}
 use Rattle.opcodes.specs.Opcodes.{constants}
 use Rattle.opcode_data.specs.Format.{modes_text}
 use Rattle.opcode_data.specs.Lists.{list_of}
+use Rattle.opcode_data.specs.declared.AddressMode.{AddressMode}
 use Rattle.opcode_data.specs.declared.Modes.{Modes}
 use Rattle.opcode_data.specs.declared.OpcodeData.{OpcodeData}
 use Rattle.opcode_data.specs.Data.{data_of}
@@ -19,14 +20,13 @@ use Rattle.listing.specs.Instruction.{modes_at, length_of, letters, instruction_
 use Rattle.listing.specs.Order.{corrected, the_corrected, formatted, formatted_text, others, exchanged, exchanges}
 use Rattle.listing.proofs.on_line.Goals as goal
 
-some_operands : (m : Modes) (bytes : List ℕ) → (m.count ≡ 0 → ⊥) → formatted (list_of m) bytes ≡ text " " ++ modes_text (list_of m) bytes
-some_operands m bytes h = go m.count h
+some_operands : (m : Modes) (bytes : List ℕ) → length m.three ≡ 3 → (m.count ≡ 0 → ⊥)
+    → formatted (list_of m) bytes ≡ text " " ++ modes_text (list_of m) bytes
+some_operands m bytes three h = go (list_of m) (rw length-take (omega arith))
   where
-    go : (n : ℕ) → (n ≡ 0 → ⊥)
-        → formatted (take n (m.first ∷ m.second ∷ m.third ∷ [])) bytes
-        ≡ text " " ++ modes_text (take n (m.first ∷ m.second ∷ m.third ∷ [])) bytes
-    go zero h = absurd (h refl)
-    go (suc n) h = refl
+    go : (ms : List AddressMode) → 0 < length ms → formatted ms bytes ≡ text " " ++ modes_text ms bytes
+    go [] some = absurd (omega arith)
+    go (m ∷ ms) some = refl
 
 -- a name without operands, and with
 name_only : (l r : Line) (opcode : ℕ) (bytes : List ℕ) (d : OpcodeData)
@@ -36,10 +36,10 @@ name_only l r opcode bytes d p e none = rw (← e, none, append-nil) p
 
 with_operands : (l named start r : Line) (opcode : ℕ) (bytes : List ℕ) (d : OpcodeData)
     → r ≡ adds start (modes_text (list_of d.modes) bytes) → start ≡ pushed named (code " ") → named ≡ adds l (letters d.name)
-    → d ≡ data_of opcode → (d.modes.count ≡ 0 → ⊥) → r ≡ adds l (formatted_text opcode bytes)
-with_operands l named start r opcode bytes d o b n e some =
+    → d ≡ data_of opcode → length d.modes.three ≡ 3 → (d.modes.count ≡ 0 → ⊥) → r ≡ adds l (formatted_text opcode bytes)
+with_operands l named start r opcode bytes d o b n e three some =
     let operands = modes_text (list_of d.modes) bytes in
-    rw (← e, some_operands d.modes bytes some)
+    rw (← e, some_operands d.modes bytes three some)
     (then_text l named r (letters d.name) (text " " ++ operands) (and_byte named start r (code " ") operands b o) n)
 
 -- by the code's own test: the bytes that are read are there, and which form the text has
@@ -58,16 +58,16 @@ module _ (opcode : ℕ) (bytes : List ℕ) (b : Bool) (e : b ≡ branches_on_dir
   first_there q enough = omega (arith, both_there q enough)
 
   module _ (l named start r : Line) (d : OpcodeData) (s : start ≡ pushed named (code " ")) (n : named ≡ adds l (letters d.name))
-      (o : d ≡ data_of opcode) (some : d.modes.count ≡ 0 → ⊥) where
+      (o : d ≡ data_of opcode) (three : length d.modes.three ≡ 3) (some : d.modes.count ≡ 0 → ⊥) where
     in_order : b ≡ false → r ≡ adds start (modes_text (list_of d.modes) bytes) → r ≡ adds l (instruction_text opcode bytes)
-    in_order q p = rw (others bytes opcode fits.fits (tested q)) (with_operands l named start r opcode bytes d p s n o some)
+    in_order q p = rw (others bytes opcode fits.fits (tested q)) (with_operands l named start r opcode bytes d p s n o three some)
 
     in_exchange : b ≡ true → r ≡ adds start (modes_text (list_of d.modes) (exchanged bytes)) → r ≡ adds l (instruction_text opcode bytes)
     in_exchange q p =
-        rw (exchanges bytes opcode fits.fits (tested q)) (with_operands l named start r opcode (exchanged bytes) d p s n o some)
+        rw (exchanges bytes opcode fits.fits (tested q)) (with_operands l named start r opcode (exchanged bytes) d p s n o three some)
 
-pub returns-then-modes-eq0 : goal.returns-then-modes-eq0
-returns-then-modes-eq0 c = search (rules, name_only)
+pub returns-then-data-eq0 : goal.returns-then-data-eq0
+returns-then-data-eq0 c = search (rules, name_only)
 
 pub bounds-operands-0 : goal.bounds-operands-0
 bounds-operands-0 c = search (rules, first_there)

@@ -1,25 +1,23 @@
--- What the loop has done and told so far is the watched run of as many steps; it ends where the record is no longer awake, after which a
--- larger budget changes nothing, or where the budget is spent.
+-- The invariant holds at first and with each step, and ends in the run.
 -- Assumes nothing.
-use Rattle.std.proofs.Common.{eq-eqb, ne_eqb}
-use native.Mathlib.Omega.{arith}
 use borrow.Author.Rules.{rules}
-use Rattle.memory.specs.World.{world}
-use Rattle.watch.proofs.SoFar.{SoFar, begun, one_more, resting, spent}
+use Rattle.memory.proofs.Laws.{same_loans, still_same}
+use Rattle.watch.proofs.SoFar.{begun, one_more, resting, spent}
 use Rattle.watch.proofs.take_steps.Goals as goal
-use Rattle.watch.proofs.take_steps.Goals.{then-loop-left-test+else-stop-eq0, else-loop-left-test}
+use Rattle.watch.proofs.take_steps.Goals.{then-loop-left-test+else-is_awake, else-loop-left-test}
 
 pub loop-left-init : goal.loop-left-init
-loop-left-init c = search (rules, begun)
+loop-left-init c = search (rules, begun, same_loans)
 
 pub loop-left-preserved : goal.loop-left-preserved
-loop-left-preserved c =
-    one_more c.loop-left.invariant c.loop-left-test.true (eq-eqb c.loop-left.stop 0 c.if-stop-eq0.true) c.turn-turned.ensures
+loop-left-preserved c = search (rules, one_more, still_same)
 
 pub returns : goal.returns
-returns c =
-    elim c.loop-left-test.branch [
-      | then-loop-left-test+else-stop-eq0 w ↦
-          resting c.loop-left.invariant c.requires.0 (ne_eqb c.loop-left.stop 0 w.if-stop-eq0.false)
-      | else-loop-left-test w ↦ spent c.loop-left.invariant c.requires.0 w.loop-left-test.false
-    ]
+returns c = let before = c.loop-left.invariant in record {
+  is =
+      elim c.loop-left-test.branch [
+        | then-loop-left-test+else-is_awake w ↦ resting before.0 w.is_awake.ensures w.if-is_awake.false
+        | else-loop-left-test w ↦ spent before.0 w.loop-left-test.false
+      ];
+  same = before.1;
+}

@@ -14,14 +14,6 @@ use Rattle.by_column.proofs.Valued.{put_as, in_carries, carry_stores, carry_take
 use Rattle.by_column.specs.Columns.{carry_group}
 use Rattle.by_column.proofs.bits.column_0a.Goals as goal
 
-pub store-requires : goal.store-requires
-store-requires c = search (
-  rules,
-  c.fetch_u16-word.auto,
-  c.read-v.auto,
-  c.requires.laid,
-)
-
 pub returns-then-row-eq6 : goal.returns-then-row-eq6
 unfolding rows gather_of bit_operand effect_of finish_of commit_of branch_of then
 returns-then-row-eq6 c = λ edition. rw (

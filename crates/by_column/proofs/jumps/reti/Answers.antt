@@ -12,9 +12,6 @@ use Rattle.instructions.specs.Step.{branch_of, commit_of, finish_of}
 use Rattle.by_column.proofs.Laws.{found_then, pull_as}
 use Rattle.by_column.proofs.jumps.reti.Goals as goal
 
-pub shape_of-cells : goal.shape_of-cells
-shape_of-cells c = search (rules, c.pull-status.auto, c.pull-low.auto, c.pull-high.auto)
-
 pub returns : goal.returns
 unfolding pull_word rows gather_of loaded effect_of finish_of commit_of branch_of then
 returns c = λ edition. let up = c.raised-next.ensures ∙ ap raised c.raised-behind.ensures in

@@ -11,9 +11,6 @@ use Rattle.instructions.specs.Step.{commit_of, branch_of, finish_of}
 use Rattle.by_column.proofs.Laws.{found_then}
 use Rattle.by_column.proofs.tests.tset.Goals as goal
 
-pub shape_of-cells : goal.shape_of-cells
-shape_of-cells c = search (rules, c.abs_off-at.auto, c.read-v.auto, c.store.auto)
-
 pub returns : goal.returns
 unfolding rows gather_of loaded effect_of finish_of commit_of branch_of then
 returns c = λ edition. rw (c.past-2.ensures, c.past.ensures)

@@ -10,16 +10,6 @@ use Rattle.instructions.specs.Step.{commit_of, branch_of, finish_of}
 use Rattle.by_column.proofs.Laws.{found_then}
 use Rattle.by_column.proofs.words.step_word.Goals as goal
 
-pub shape_of-cells : goal.shape_of-cells
-shape_of-cells c = search (
-  rules,
-  c.fetch-byte.auto,
-  c.read-low.auto,
-  c.read-high.auto,
-  c.store.auto,
-  c.store-2.auto,
-)
-
 pub returns : goal.returns
 unfolding gather_of finish_of commit_of branch_of direct_word then
 returns c = rw c.past.ensures

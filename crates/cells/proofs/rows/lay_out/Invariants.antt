@@ -1,14 +1,8 @@
 -- Cell by cell, the row is filled with bytes and marks.
 -- Assumes nothing.
-use Prim.Native.Nat.{◌-◌}
-use native.Mathlib.Omega.{arith}
-use borrow.Author.Rules.{rules}
-use Rattle.cells.proofs.Values.{SoFar, none_yet, one_more, all_there}
-use Rattle.cells.proofs.Laws.{cell_of, cell_made, laid_out}
+use Rattle.std.proofs.Common.{◌≡◌, ℕ, ◌<◌, length, get_or}
+use Rattle.cells.proofs.Laws.{cell_of}
 use Rattle.cells.proofs.rows.lay_out.Given as goal
 
 abbrev pub invariant-loop-k : goal.invariant-loop-k
-invariant-loop-k l = SoFar 65536 (cell_of l.memory l.reads l.writes) l.cells l.k
-
-abbrev pub decreases-loop-k : goal.decreases-loop-k
-decreases-loop-k l = 65536 - l.k
+invariant-loop-k l = record { size : length l.cells ≡ 65536; filled : (i : ℕ) → i < l.k → get_or l.cells i 0 ≡ cell_of l.memory l.reads l.writes i }

@@ -1,13 +1,8 @@
 -- Byte by byte, the memory is filled with the low bytes.
 -- Assumes nothing.
-use Prim.Native.Nat.{◌-◌}
-use borrow.Author.Rules.{rules}
+use Rattle.std.proofs.Common.{◌≡◌, ℕ, ◌<◌, length, get_or}
 use Rattle.cells.specs.Cells.{byte_of}
-use Rattle.cells.proofs.Values.{SoFar, none_yet, one_more, all_there}
 use Rattle.cells.proofs.rows.put_bytes.Given as goal
 
 abbrev pub invariant-loop-k : goal.invariant-loop-k
-invariant-loop-k l = SoFar 65536 (byte_of l.cells) l.memory l.k
-
-abbrev pub decreases-loop-k : goal.decreases-loop-k
-decreases-loop-k l = 65536 - l.k
+invariant-loop-k l = record { size : length l.memory ≡ 65536; filled : (i : ℕ) → i < l.k → get_or l.memory i 0 ≡ byte_of l.cells i }

@@ -1,37 +1,29 @@
--- A byte that is not its default shows that the file is not the one with its defaults; past the last unnamed byte it is.
+-- The three tests are those of the three stretches.
 -- Assumes nothing.
-use Prim.Native.Nat.{ℕ, ◌<◌, ◌≤◌}
-use mathlib.Core.Bool.{true, false}
-use mathlib.Core.Path.{◌≡◌, sym}
-use mathlib.Core.List.{List}
-use lib.ListN.{length, get_or}
-use borrow.Author.Rules.{rules}
-use Rattle.conversion.specs.Unnamed.{unnamed, place_at, all_default}
-use Rattle.conversion.specs.Defaults.{kept, yes_all, not_all}
-use Rattle.conversion.proofs.Visits.{Visited, at_first, here, go_on, all_visited}
+use Rattle.std.proofs.Common.{◌≡◌, true, false, sym, ◌∙◌, refl, replicate}
+use Rattle.conversion.proofs.Stretches.{Zeros, zeros_lem, first_fails, second_fails, last_tells}
 use Rattle.conversion.proofs.unnamed.has_defaults.Goals as goal
+use Rattle.conversion.proofs.unnamed.has_defaults.Goals.{then-eq, else-eq}
 
-module _ (file : List ℕ) {at : ℕ} where
-  another : {default : ℕ} → place_at at ≡ unnamed default → (get_or file at 0 ≡ default → ⊥) → at < length file → false ≡ all_default file
-  another {default} p n h = sym (not_all file (λ e. n (kept file e at default h p)))
+second : Zeros 212 (replicate 212 0)
+second = zeros_lem 212 refl
 
-  none : length file ≡ 66048 → Visited file at → 66048 ≤ at → true ≡ all_default file
-  none size v h = sym (yes_all file (all_visited file size v h))
+third : Zeros 256 (replicate 256 0)
+third = zeros_lem 256 refl
 
-pub loop-at-init : goal.loop-at-init
-loop-at-init c = search (rules, at_first)
+pub returns-then-eq-2 : goal.returns-then-eq-2
+returns-then-eq-2 c =
+    elim c.if-eq.branch [
+      | then-eq w ↦ last_tells c.args.file.now (replicate 212 0) (replicate 256 0) c.told-file second third
+          c.eq.ensures w.if-eq.true w.eq-then-eq.ensures (sym w.value-is ∙ c.if-eq-2.true) c.eq-then-eq-2.ensures
+      | else-eq w ↦ let both : true ≡ false = sym c.if-eq-2.true ∙ w.value-is ∙ w.if-eq.false in cc
+    ]
 
-pub default_at-requires : goal.default_at-requires
-default_at-requires c = search (rules, here)
-
-pub returns-then-file-at : goal.returns-then-file-at
-returns-then-file-at c = search (rules, another)
-
-pub next-at-requires : goal.next-at-requires
-next-at-requires c = search (rules, here)
-
-pub loop-at-preserved : goal.loop-at-preserved
-loop-at-preserved c = search (rules, go_on)
-
-pub returns : goal.returns
-returns c = search (rules, none)
+pub returns-else-eq-2 : goal.returns-else-eq-2
+returns-else-eq-2 c =
+    elim c.if-eq.branch [
+      | then-eq w ↦ w.value-is ∙ second_fails c.args.file.now (replicate 212 0) (replicate 256 0) c.told-file second third
+          w.eq-then-eq.ensures (sym w.value-is ∙ c.if-eq-2.false)
+      | else-eq w ↦ w.value-is ∙ first_fails c.args.file.now (replicate 212 0) (replicate 256 0) c.told-file second third
+          c.eq.ensures w.if-eq.false
+    ]

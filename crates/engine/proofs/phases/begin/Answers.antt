@@ -1,6 +1,5 @@
 -- The opcode, then what its row reads.
 -- Assumes nothing.
-use borrow.Author.Rules.{rules}
 use Rattle.memory.proofs.Laws.{accesses}
 use Rattle.instructions.specs.Step.{read_for, begin_of}
 use Rattle.engine.proofs.phases.begin.Goals as goal

@@ -1,6 +1,5 @@
 -- Taken, it is the branch itself; else nothing is done.
 -- Assumes nothing.
-use borrow.Author.Rules.{rules}
 use Rattle.instructions.specs.Step.{branch_of}
 use Rattle.memory.proofs.Laws.{accesses}
 use Rattle.engine.proofs.Laws.{branch_as}

@@ -1,6 +1,5 @@
 -- The return PC, then the status byte, and PC goes to the target.
 -- Assumes nothing.
-use borrow.Author.Rules.{rules}
 use Rattle.memory.proofs.Laws.{accesses}
 use Rattle.instructions.specs.Step.{commit_of}
 use Rattle.engine.proofs.phases.interrupt.Goals as goal

@@ -1,21 +1,12 @@
 -- The cell of every opcode says what the rule says of the opcode: both tables are computed and compared.
 -- Assumes nothing.
-use mathlib.Core.Path.{refl}
+use Rattle.std.proofs.Common.{refl}
 use Rattle.opcodes.specs.Opcodes.{constants}
 use Rattle.opcode_data.specs.Data.{data_of}
 use Rattle.laws.specs.Table.{same_table}
-use Rattle.opcode_data.proofs.Cells.{cell_of, cell_read}
+use Rattle.opcode_data.proofs.Cells.{cell_of}
 use Rattle.opcode_data.proofs.OpcodeData.from_opcode.Goals as goal
 
 pub returns : goal.returns
 unfolding constants data_of cell_of
-returns c = rw (
-  c.one_unless_blank-3.ensures.0,
-  c.one_unless_blank-2.ensures.0,
-  c.one_unless_blank.ensures.0,
-  c.mode-3.ensures,
-  c.mode-2.ensures,
-  c.mode.ensures,
-  cell_read,
-)
-    (same_table 256 (cell_of _) data_of refl _ c.ranges.opcode.fits)
+returns c = rw c.operands.ensures (same_table 256 (cell_of _) data_of refl _ c.ranges.opcode.fits)

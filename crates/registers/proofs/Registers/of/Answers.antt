@@ -33,7 +33,7 @@ returns c = let cpu = c.args.cpu in
       page,
       c.bit_if-6.ensures.0,
       c.bit_if-7.ensures.0,
-      c.number_of.ensures,
+      c.from.ensures,
       told (leb 128) 128 f.n refl refl,
       told (leb 128) 128 f.v refl refl,
       told (λ n. eqb (n / 256 % 2) 1) 256 f.p refl refl,
