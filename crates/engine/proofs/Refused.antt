@@ -9,19 +9,24 @@ use Rattle.editions.specs.Editions.{is_edition, edition_of, edition_named}
 use Rattle.editions.specs.declared.Edition.{Edition}
 use Rattle.engine.specs.Entry.{refusal_of}
 
--- ---- the edition that a number names
+-- ---- a test by itself
 
-pub named_ok : (b : Bool) (x e : Edition) → ◌≡◌ {A = Result Edition Refusal} (Ok e) (cond b (Ok x) (Err reason.Edition)) → (b ≡ true) × (e ≡ x)
-named_ok true x e h = (refl, grind (arith, h))
-named_ok false x e h = absurd (grind (arith, h))
+module _ {A : Type 0} where
+  pub when_ok : (b : Bool) (x y : A) (r : Refusal) → ◌≡◌ {A = Result A Refusal} (Ok y) (cond b (Ok x) (Err r)) → (b ≡ true) × (y ≡ x)
+  when_ok true x y r h = (refl, grind (arith, h))
+  when_ok false x y r h = absurd (grind (arith, h))
 
-pub named_err : (b : Bool) (x : Edition) (e : Refusal) → ◌≡◌ {A = Result Edition Refusal} (Err e) (cond b (Ok x) (Err reason.Edition))
-    → (b ≡ false) × (e ≡ reason.Edition)
-named_err true x e h = absurd (grind (arith, h))
-named_err false x e h = (refl, grind (arith, h))
+  pub when_err : (b : Bool) (x : A) (e r : Refusal) → ◌≡◌ {A = Result A Refusal} (Err e) (cond b (Ok x) (Err r)) → (b ≡ false) × (e ≡ r)
+  when_err true x e r h = absurd (grind (arith, h))
+  when_err false x e r h = (refl, grind (arith, h))
 
-pub edition_is : (number : ℕ) {edition : Edition} → Ok edition ≡ edition_named number → edition ≡ edition_of number
-edition_is number {edition} h = (named_ok (is_edition number) (edition_of number) edition h).1
+-- the edition that a number names
+pub edition_ok : (number : ℕ) {edition : Edition} → Ok edition ≡ edition_named number
+    → (is_edition number ≡ true) × (edition ≡ edition_of number)
+edition_ok number {edition} h = when_ok (is_edition number) (edition_of number) edition reason.Edition h
+
+pub edition_err : (number : ℕ) {e : Refusal} → Err e ≡ edition_named number → (is_edition number ≡ false) × (e ≡ reason.Edition)
+edition_err number {e} h = when_err (is_edition number) (edition_of number) e reason.Edition h
 
 -- ---- the refusal
 
@@ -29,11 +34,11 @@ module _ (number : ℕ) (w : World) where
   -- no edition
   pub no_edition : {e : Refusal} → Err e ≡ edition_named number → refusal_of number w ≡ Some e
   unfolding refusal_of
-  no_edition h = let n = named_err (is_edition number) (edition_of number) _ h in rw (n.0, n.1)
+  no_edition h = let n = edition_err number h in rw (n.0, n.1)
 
   module _ {edition : Edition} (h : Ok edition ≡ edition_named number) where
     named : is_edition number ≡ true
-    named = (named_ok (is_edition number) (edition_of number) edition h).0
+    named = (edition_ok number h).0
 
     -- the first length that is another
     pub no_memory : (length w.memory ≡ 65536 → ⊥) → refusal_of number w ≡ Some reason.Memory

@@ -11,7 +11,7 @@ use Rattle.editions.specs.declared.Edition.{Edition}
 use Rattle.processor.specs.declared.Processor.{Processor}
 use Rattle.engine.specs.Entry.{told, refusal_of, run_of, run_answer}
 use Rattle.engine.specs.declared.Ran.{Ran}
-use Rattle.engine.proofs.Refused.{no_edition, edition_is, no_memory, no_reads, no_writes, accepts}
+use Rattle.engine.proofs.Refused.{no_edition, edition_ok, no_memory, no_reads, no_writes, accepts}
 use Rattle.engine.proofs.run.Goals as goal
 
 module _ (number budget : ℕ) (cpu : Processor) (w : World) where
@@ -47,5 +47,5 @@ returns c =
     let memory = c.in-Some.ensures.cases in
     let reads = c.in-Some-as_mut_array.ensures.cases in
     let writes = c.in-Some-as_mut_array-2.ensures.cases in
-    taken _ _ _ _ (accepts _ _ c.in_ok-edition.ensures memory.long reads.long writes.long) (edition_is _ c.in_ok-edition.ensures)
+    taken _ _ _ _ (accepts _ _ c.in_ok-edition.ensures memory.long reads.long writes.long) (edition_ok _ c.in_ok-edition.ensures).1
     (c.run_within.ensures ∙ rw (memory.same, reads.same, writes.same))

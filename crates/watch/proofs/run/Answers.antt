@@ -10,7 +10,7 @@ use Rattle.editions.specs.Editions.{edition_of}
 use Rattle.editions.specs.declared.Edition.{Edition}
 use Rattle.processor.specs.declared.Processor.{Processor}
 use Rattle.engine.specs.Entry.{refusal_of}
-use Rattle.engine.proofs.Refused.{no_edition, edition_is, no_memory, no_reads, no_writes, accepts}
+use Rattle.engine.proofs.Refused.{no_edition, edition_ok, no_memory, no_reads, no_writes, accepts}
 use Rattle.watch.specs.Calls.{watching, watched_run}
 use Rattle.watch.specs.declared.Watched.{Watched}
 use Rattle.watch.proofs.run.Goals as goal
@@ -48,5 +48,5 @@ returns c =
     let memory = c.in-Some.ensures.cases in
     let reads = c.in-Some-as_mut_array.ensures.cases in
     let writes = c.in-Some-as_mut_array-2.ensures.cases in
-    taken _ _ _ _ (accepts _ _ c.in_ok-edition.ensures memory.long reads.long writes.long) (edition_is _ c.in_ok-edition.ensures)
+    taken _ _ _ _ (accepts _ _ c.in_ok-edition.ensures memory.long reads.long writes.long) (edition_ok _ c.in_ok-edition.ensures).1
     (c.run_within.ensures ∙ rw (memory.same, reads.same, writes.same))
