@@ -33,7 +33,7 @@ pub record Fits (s : Session) : Type 0 where
 -- ---- the two lines: at most 53 bytes and at most 73
 
 length_opening : (r : Ran) → number_of r.cpu.state ≤ 2 → r.steps < 4294967296 → length (opening_of r) ≤ 53
-unfolding opening_of registers_text
+unfolding registers_text
 length_opening r h g =
     simp length-append (omega (arith, length_decimal 0 (number_of r.cpu.state) (omega arith), length_decimal 9 r.steps (omega arith)))
 

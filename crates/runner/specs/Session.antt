@@ -38,7 +38,7 @@ run_on input = run_in (edition_of (edition_byte input)) input
 
 -- The report: the stop, the steps and the registers; then the flags, and how many addresses were read, how many were written, and how many
 -- of these are both.
-unfoldable pub opening_of : Ran → List ℕ
+abbrev pub opening_of : Ran → List ℕ
 opening_of r = text "stop " ++ decimal (number_of r.cpu.state) ++ text "\nsteps " ++ decimal r.steps ++ text "\n" ++ registers_text r.cpu ++ text "\n"
 
 -- the last line of the report

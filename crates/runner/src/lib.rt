@@ -41,6 +41,7 @@ fn count(reads: &Map, writes: &Map) -> Counted
 }
 
 // Runs in an edition from clear maps, and reports.
+#[tactic(auto, using(marks::specs::Sums::few))]
 fn run_on(cpu: Processor, edition: Edition, memory: &mut Memory, budget: u32) -> Report
     ensures { Tells (λ image. reported [] (from_clear edition budget cpu image)) (lent memory) result }
 {

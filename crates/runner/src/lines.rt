@@ -1,4 +1,6 @@
 // The two lines of the report.
+#![tactic(auto, using(text::proofs::Laws::adds_append))]
+
 ghost use Rattle.std.specs.Prelude.{◌≡◌};
 ghost use Rattle.text.specs.Line.{blank, adds};
 ghost use Rattle.runner.specs.Session.{opening_of, marks_text, closing_text};

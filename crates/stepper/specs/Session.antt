@@ -3,22 +3,22 @@ use Rattle.std.specs.Prelude.{ℕ, cond, List, ◌++◌, eqb, length, get_or, ta
 use Rattle.text.specs.Digits.{decimal}
 use Rattle.text.specs.Quoted.{text}
 use Rattle.memory.specs.World.{World, world}
-use Rattle.memory.specs.Access.{Outcome}
-use Rattle.editions.specs.Editions.{number_of, is_edition, edition_of}
+use Rattle.memory.specs.Access.{Outcome, perform}
+use Rattle.editions.specs.Editions.{is_edition, edition_of}
 use Rattle.editions.specs.declared.Edition.{Edition}
 use Rattle.processor.specs.declared.Processor.{Processor}
 use Rattle.state.specs.Registers.{registers_of, bytes_of}
-use Rattle.engine.specs.Entry.{step_answer}
+use Rattle.engine.specs.Entry.{told, counted_step}
 use Rattle.engine.specs.Provenance.{clear}
 use Rattle.engine.specs.declared.Ran.{Ran}
 use Rattle.stepper.specs.Alike.{alike}
 
--- One step in an edition on a memory, from clear maps.
+-- One step in an edition on a memory of 65,536 bytes, from clear maps: what `step_answer` of engine/specs/Entry accepts.
 abbrev pub stepped : Edition → Processor → List ℕ → Outcome World Ran
-stepped edition cpu memory = step_answer (number_of edition) cpu (world memory clear clear)
+stepped edition cpu memory = told (perform (counted_step edition cpu) (world memory clear clear))
 
 -- A state record is A X Y SP PC-low PC-high PSW, and the memory. The record that one step leaves.
-unfoldable pub after_step : Edition → List ℕ → List ℕ
+abbrev pub after_step : Edition → List ℕ → List ℕ
 after_step edition state =
     let o = stepped edition (registers_of (take 7 state)) (drop 7 state) in bytes_of o.result.cpu ++ o.left.memory
 
@@ -37,7 +37,7 @@ first_of input = take 65543 (drop 1 input)
 abbrev pub second_of : List ℕ → List ℕ
 second_of input = take 65543 (drop 65544 input)
 
--- what a step from the one leaves
+-- what a step from the one leaves, in the edition that the input names
 abbrev pub outcome_of : List ℕ → List ℕ
 outcome_of input = after_step (edition_of (edition_byte input)) (first_of input)
 
@@ -46,12 +46,16 @@ pub record Session : Type 0 where
   pub printed : List ℕ
   pub left : List ℕ
 
--- The step's outcome stands where the first record stood.
-unfoldable pub compared : List ℕ → Session
-compared input = record {
-  printed = comparison_text (alike (outcome_of input) (second_of input));
-  left = take 1 input ++ (outcome_of input ++ second_of input);
+-- What a step in an edition leaves stands where the first record stood.
+abbrev pub compared_in : Edition → List ℕ → Session
+compared_in edition input = let outcome = after_step edition (first_of input) in record {
+  printed = comparison_text (alike outcome (second_of input));
+  left = take 1 input ++ (outcome ++ second_of input);
 }
+
+-- The edition is the one that the input names.
+unfoldable pub compared : List ℕ → Session
+compared input = compared_in (edition_of (edition_byte input)) input
 
 -- An input that is refused gives one line, and stays as it was.
 abbrev pub refused : List ℕ → List ℕ → Session

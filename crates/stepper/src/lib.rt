@@ -1,53 +1,60 @@
 // One step from a state record, and how the record that it leaves compares with a second one.
 #![tactic(auto)]
 
-ghost use Rattle.std.specs.Prelude.{◌≤◌, true, ◌≡◌, length, get_or};
+ghost use Rattle.std.specs.Prelude.{◌≤◌, ◌≡◌};
 ghost use Rattle.laws.specs.Lent.{lent};
 ghost use Rattle.text.specs.Line.{blank, adds};
-ghost use Rattle.editions.specs.Editions.{is_edition, edition_of};
 ghost use Rattle.stepper.specs.Alike.{alike};
-ghost use Rattle.stepper.specs.Session.{stepped, after_step, comparison_text, first_of, second_of, compared, session_of};
+ghost use Rattle.stepper.specs.Session.{stepped, after_step, comparison_text, compared_in, session_of};
 ghost use Rattle.stepper.specs.Told.{Tells, Takes};
 
+use editions::Edition;
 use engine::Ran;
+use memory::{Bus, Memory};
 use processor::Processor;
 use text::Line;
 
+// A state record.
+type Record = [u8; 65543];
+
+// What stands in an input: an edition's number and two state records.
+type Input = [u8; 131087];
+
 // A step from clear maps, of which nothing is kept.
-fn step_on(cpu: Processor, edition: u8, memory: &mut [u8]) -> Ran
-    requires { is_edition edition ≡ true }
-    ensures { Takes (stepped (edition_of edition) cpu) (lent memory) result }
+#[tactic(auto, using(runs::proofs::Run::run_one))]
+fn step_on(cpu: Processor, edition: Edition, memory: &mut Memory) -> Ran
+    ensures { Takes (stepped edition cpu) (lent memory) result }
 {
     let mut reads = [0u8; 8192];
     let mut writes = [0u8; 8192];
-    engine::step(cpu, edition, memory, &mut reads, &mut writes)
+    let mut bus = Bus {
+        memory,
+        reads: &mut reads,
+        writes: &mut writes,
+    };
+    engine::run_on(cpu, edition, &mut bus, 1)
 }
 
-// Takes a step from the record in these bytes, and leaves the record after it in them.
-fn take_step(edition: u8, state: &mut [u8])
-    requires state_len { length state.old ≡ 65543 }
-    requires edition_value { is_edition edition ≡ true }
-    ensures { state.new ≡ after_step (edition_of edition) state.old }
+// Takes a step from a record, and leaves the record after it in its place.
+fn take_step(edition: Edition, state: &mut Record)
+    ensures { state.new ≡ after_step edition state.old }
 {
-    let cpu = state::registers(&state[0..7]);
-    let ran = step_on(cpu, edition, &mut state[7..]);
-    let next = ran.cpu;
-    state::set_registers(&mut state[0..7], next);
+    let (registers, memory) = state.split_last_chunk_mut::<65536>().unwrap();
+    let cpu = state::registers(registers);
+    let ran = step_on(cpu, edition, memory);
+    state::set_registers(registers, ran.cpu);
 }
 
-// How many bytes two rows begin with alike.
-fn alike(first: &[u8], second: &[u8]) -> usize
-    requires { length first.now ≡ length second.now }
+// How many bytes two records begin with alike.
+fn alike(first: &Record, second: &Record) -> usize
     ensures { result ≡ alike first.now second.now }
 {
-    let mut at = 0;
-    while at < first.len() && first[at] == second[at] {
-        at += 1;
-    }
-    at
+    let pairs = first.iter().zip(second);
+    pairs.take_while(|(byte, other)| byte == other).count()
 }
 
 // What is printed of two records that begin alike with so many bytes: `same` where that is all of them, else the first offset behind them.
+#[tactic(auto, using(text::proofs::Laws::adds_append))]
 fn comparison(at: usize) -> Line
     requires { at ≤ 65543 }
     ensures { result ≡ adds blank (comparison_text at) }
@@ -58,23 +65,14 @@ fn comparison(at: usize) -> Line
     Line::new().decimal(at as u32).text(b"\n")
 }
 
-// Compares the two records of an input.
-fn compare(input: &[u8]) -> Line
-    requires { length input.now ≡ 131087 }
-    ensures { result ≡ adds blank (comparison_text (alike (first_of input.now) (second_of input.now))) }
+// Takes a step from the first record of an input, and compares.
+fn accepted(edition: Edition, input: &mut Input) -> Line
+    ensures { Tells (compared_in edition) (lent input) result }
 {
-    comparison(alike(&input[1..65544], &input[65544..131087]))
-}
-
-// Takes a step from the first record of an input of the right length, with an edition that there is, and compares.
-fn accepted(input: &mut [u8]) -> Line
-    requires input_len { length input.old ≡ 131087 }
-    requires input_value { is_edition (get_or input.old 0 0) ≡ true }
-    ensures { Tells compared (lent input) result }
-{
-    let edition = input[0];
-    take_step(edition, &mut input[1..65544]);
-    compare(input)
+    let (before, second) = input.split_last_chunk_mut::<65543>().unwrap();
+    let (_, first) = before.split_last_chunk_mut::<65543>().unwrap();
+    take_step(edition, first);
+    comparison(alike(first, second))
 }
 
 // The line that the program prints. The record that the step leaves stands in the input's bytes, in the first record's place. An input of
@@ -82,11 +80,11 @@ fn accepted(input: &mut [u8]) -> Line
 pub fn session(input: &mut [u8]) -> Line
     ensures { Tells session_of (lent input) result }
 {
-    if input.len() != 131087 {
+    let Some(input) = input.as_mut_array::<131087>() else {
         return Line::new().text(b"refused 6\n");
-    }
-    if !editions::is_edition(input[0]) {
+    };
+    let Ok(edition) = Edition::try_from(input[0]) else {
         return Line::new().text(b"refused 9\n");
-    }
-    accepted(input)
+    };
+    accepted(edition, input)
 }

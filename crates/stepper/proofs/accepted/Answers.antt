@@ -1,60 +1,37 @@
 -- The record that the step leaves goes back to its place, between the edition and the second record; there it is compared.
 -- Assumes nothing.
-use Prim.Native.Nat.{ℕ}
-use mathlib.Core.Path.{◌≡◌, sym, ◌∙◌}
-use mathlib.Core.List.{List, ◌++◌, append_assoc}
-use native.Mathlib.Omega.{arith}
-use lib.ListN.{length, take, drop, length-append, length-take, length-drop}
-use lib.Seq.{take_all, take_at, drop_at}
-use borrow.Author.Rules.{rules}
-use borrow.Rule.Slice.PartMut.{put_mid, post_of, Post-is}
+use Rattle.std.proofs.Common.{◌≡◌, ℕ, List, ◌++◌, length, take, drop, arith, sym, ◌∙◌, append_assoc, take_all, length-drop}
+use Rattle.std.proofs.lemmas.List.{drop-take, take-take}
 use Rattle.text.specs.Line.{blank, adds}
 use Rattle.text.specs.declared.Line.{Line}
-use Rattle.editions.specs.Editions.{edition_of}
+use Rattle.editions.specs.declared.Edition.{Edition}
 use Rattle.stepper.specs.Alike.{alike}
-use Rattle.stepper.specs.Session.{comparison_text, edition_byte, first_of, second_of, outcome_of, compared}
+use Rattle.stepper.specs.Session.{after_step, comparison_text, second_of, compared_in}
 use Rattle.stepper.specs.Told.{Told}
-use Rattle.stepper.specs.Theorems.{after_step_size}
+use Rattle.stepper.specs.Theorems.{at_most}
 use Rattle.stepper.proofs.accepted.Goals as goal
 
-module _ (input : List ℕ) (size : length input ≡ 131087) where
-  first_size : length (first_of input) ≡ 65543
-  first_size = rw (length-take 65543 (drop 1 input), length-drop 1 input, size)
+-- The second record is what is split off first, and then the first one.
+module _ (edition : Edition) (input : List ℕ) (size : length input ≡ 131087) where
+  second_is : drop 65544 input ≡ second_of input
+  second_is = let rest = length-drop 65544 input in sym (take_all 65543 (drop 65544 input) (omega arith))
 
-  second_size : length (second_of input) ≡ 65543
-  second_size = rw (length-take 65543 (drop 65544 input), length-drop 65544 input, size)
+  told : {front before first second outcome : List ℕ} {n : ℕ} {r : Line}
+      → front ≡ take 65544 input → second ≡ drop 65544 input → before ≡ take 1 front → first ≡ drop 1 front
+      → outcome ≡ after_step edition first → n ≡ alike outcome second → r ≡ adds blank (comparison_text n)
+      → Told (compared_in edition input) r ((before ++ outcome) ++ second)
+  told {before = before} {second = second} {outcome = outcome} whole s b f o n r =
+      let edition-byte = rw (whole, take-take 1 65544 input (omega arith)) at b in
+      let first-is = rw (whole, drop-take 1 65543 input) at f in
+      let second-is = s ∙ second_is in
+      rw (← edition-byte, ← first-is, ← second-is, ← o) (record { printed = rw (r, n); left = append_assoc before outcome second })
 
-  behind : post_of 1 65543 input ≡ second_of input
-  behind =
-      let all : length (drop 65544 input) ≡ 65543 = rw (length-drop 65544 input, size) in
-      Post-is 1 65544 input (omega arith) ∙ sym (take_all 65543 (drop 65544 input) (omega (arith, all)))
-
-  module _ {after : List ℕ} (is : after ≡ outcome_of input) where
-    after_size : length after ≡ 65543
-    after_size = rw is (after_step_size (edition_of (edition_byte input)) (first_of input) first_size)
-
-    whole : put_mid 1 65543 input after ≡ take 1 input ++ (after ++ second_of input)
-    whole = rw behind
-
-    one : length (take 1 input) ≡ 1
-    one = rw (length-take 1 input, size)
-
-    first_back : first_of (put_mid 1 65543 input after) ≡ after
-    first_back = rw (whole, drop_at (take 1 input) (after ++ second_of input) 1 one) (take_at after (second_of input) 65543 after_size)
-
-    second_back : second_of (put_mid 1 65543 input after) ≡ second_of input
-    second_back =
-        let both : length (take 1 input ++ after) ≡ 65544 = rw (length-append (take 1 input) after, one, after_size) in
-        rw (whole, ← append_assoc (take 1 input) after (second_of input), drop_at (take 1 input ++ after) (second_of input) 65544 both)
-        (take_all 65543 (second_of input) (omega (arith, second_size)))
-
-    tells : {r : Line}
-        → r ≡ adds blank (comparison_text (alike (first_of (put_mid 1 65543 input after)) (second_of (put_mid 1 65543 input after))))
-        → Told (compared input) r (put_mid 1 65543 input after)
-    unfolding compared
-    tells p =
-        let with-edition : take 1 input ++ (after ++ second_of input) ≡ take 1 input ++ (outcome_of input ++ second_of input) = rw is in
-        record { printed = rw (← is) (rw (first_back, second_back) at p); left = whole ∙ with-edition }
+pub comparison-requires : goal.comparison-requires
+comparison-requires c = grind (arith, at_most)
 
 pub returns : goal.returns
-returns c = search (rules, tells)
+returns c =
+    let whole = rw (c.unwrap.ensures, c.told-input) at c.split_last_chunk_mut.ensures.cases in
+    let front : length c.unwrap.result.0.now ≡ 65544 = omega arith in
+    let before = rw (c.unwrap-2.ensures, front) at c.split_last_chunk_mut-2.ensures.cases in
+    told c.args.edition c.args.input.now c.told-input whole.0 whole.1 before.0 before.1 c.take_step.ensures c.alike.ensures c.comparison.ensures

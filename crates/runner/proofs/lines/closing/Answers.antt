@@ -1,9 +1,0 @@
--- Each piece of the text is added behind the one before it; pieces added one after the other add up.
--- Assumes nothing.
-use borrow.Author.Rules.{rules}
-use Rattle.text.proofs.Laws.{written}
-use Rattle.runner.proofs.Laws.{on_new}
-use Rattle.runner.proofs.lines.closing.Goals as goal
-
-pub returns : goal.returns
-returns c = search (rules, written, on_new)
