@@ -15,13 +15,12 @@ fn main(rt: HostRuntime) -> io::Result<()> {
         if n == 0 {
             return Ok(());
         }
-        let refusal = auditor::session(&mut packet[..n]);
-        if refusal != 0 {
+        if let Err(refusal) = auditor::session(&mut packet[..n]) {
             return output::print(
                 &mut to,
                 Line::new()
                     .text(b"refused ")
-                    .decimal(refusal as u32)
+                    .decimal(u8::from(refusal) as u32)
                     .text(b"\n"),
             );
         }

@@ -98,8 +98,8 @@ fn take_steps(cpu: Processor, edition: Edition, bus: &mut Bus, budget: u32) -> W
     }
 }
 
-// The same, on memory and maps that are lent one by one.
-fn run_within(
+// The same, on memory and maps that are lent one by one. They have their lengths and the edition is one, so nothing is refused.
+pub fn run_within(
     cpu: Processor,
     edition: Edition,
     memory: &mut Memory,
