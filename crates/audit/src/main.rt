@@ -9,8 +9,7 @@ fn main(rt: HostRuntime) -> io::Result<()> {
     let mut from = rt.stdin();
     let mut to = rt.stdout();
     let mut packet = [0u8; 155712];
-    let mut left: u32 = 0xFFFF_FFFF;
-    while left > 0 {
+    for _ in 0..u32::MAX {
         let n = output::read_full(&mut from, &mut packet)?;
         if n == 0 {
             return Ok(());
@@ -25,7 +24,6 @@ fn main(rt: HostRuntime) -> io::Result<()> {
             );
         }
         to.write_all(&packet[..n])?;
-        left -= 1;
     }
     Ok(())
 }

@@ -50,6 +50,7 @@ pub fn play_both(
     let mut b = second;
     let mut left: u32 = budget;
     let mut alike = are_alike(a, b, song.memory, other.memory);
+    // not a `for`: one that breaks off has to count the steps besides
     while left > 0 && alike && goes_on(a, until) && goes_on(b, until) {
         a = take_turn(a, edition, until, song);
         b = take_turn(b, edition, until, other);

@@ -130,6 +130,7 @@ pub fn play(player: Player, edition: Edition, until: u32, budget: u32, song: &mu
 {
     let mut next = player;
     let mut left: u32 = budget;
+    // not a `for`: one that breaks off has to count the steps besides
     while left > 0 && goes_on(next, until) {
         next = turn(next, edition, song);
         left -= 1;
