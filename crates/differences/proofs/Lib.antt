@@ -1,6 +1,5 @@
 pub mod Walks
 pub mod Looks
-pub mod Rests
 pub mod Counting
 pub mod Writing
 pub mod Maximal

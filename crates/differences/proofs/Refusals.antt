@@ -1,50 +1,75 @@
 -- Which comparisons are refused: what is known of one that is not, and a row that always suffices.
 -- Assumes nothing.
-use Rattle.std.specs.Prelude.{ℕ, ◌*◌, ◌≤◌, Bool, List}
-use Rattle.std.proofs.Math.Bool.{true}
-use Rattle.std.proofs.Math.Path.{◌≡◌}
-use Rattle.std.proofs.Math.Decide.{ℕ_discrete}
-use Rattle.std.proofs.Common.{arith}
-use Rattle.std.proofs.Math.ListN.{length}
-use borrow.Author.Tests.{eq-eqb, ne_eqb, le-leb}
-use Rattle.differences.specs.Calls.{stretches_of, lengths_refusal, refusal_of, differences_of}
-use Rattle.differences.specs.Maximal.{settled}
+use Rattle.std.specs.Prelude.{ℕ, ◌*◌, ◌<◌, ◌≤◌, Bool, true, false, ◌≡◌, ◌&&◌, cond, List, length, eqb, Option, None, Some, Ok}
+use Rattle.std.proofs.Common.{arith, refl, eq-eqb, eqb-true, ne_eqb, le-leb}
+use Rattle.std.proofs.lemmas.Bool.{lt-leb}
+use Rattle.refusals.specs.declared.Refusal.{Refusal}
+use Rattle.refusals.specs.declared.Refusal.TheVariants.{Memory, Map, Room}
+use Rattle.differences.specs.Calls.{stretches_of, memories_right, map_right, marks_of, refusal_of, outcome, differences_of}
+use Rattle.differences.specs.declared.Differences.{Differences}
 use Rattle.differences.proofs.Theorems.{few}
-use Rattle.differences.specs.Walk.{Pair, Usable}
 
-module _ (first second : List ℕ) (has-map : Bool) (map : List ℕ) where
-  -- Where no length is refused, both memories have the right one, and the map, if there is one.
-  pub paired : lengths_refusal first second has-map map ≡ 0 → Pair first second
-  unfolding lengths_refusal
-  paired e = go (ℕ_discrete (length first) 65536) (ℕ_discrete (length second) 65536)
+-- Where nothing is refused, each test has passed.
+first_right : (a b c : Bool) → cond a (cond b (cond c None (Some Room)) (Some Map)) (Some Memory) ≡ None → (a ≡ true) × (b ≡ true) × (c ≡ true)
+first_right true true true e = (refl, refl, refl)
+first_right true true false e = absurd (cc)
+first_right true false c e = absurd (cc)
+first_right false b c e = absurd (cc)
+
+both_right : (a b : Bool) → a && b ≡ true → (a ≡ true) × (b ≡ true)
+both_right true b e = (refl, e)
+both_right false b e = absurd (cc)
+
+-- Right memories have 65,536 bytes each, and a right map 8,192.
+pub paired : (first second : List ℕ) → memories_right first second ≡ true → (length first ≡ 65536) × (length second ≡ 65536)
+paired first second e =
+    let both = both_right (eqb (length first) 65536) (eqb (length second) 65536) e in
+    (eqb-true _ _ both.0, eqb-true _ _ both.1)
+
+pub usable : (map : List ℕ) → map_right (Some map) ≡ true → length map ≡ 8192
+usable map e = eqb-true _ _ e
+
+module _ (first second : List ℕ) (map : Option (List ℕ)) (row : List ℕ) where
+  -- Where a comparison is accepted, no test failed, and so no length is refused.
+  pub nothing_refused : {d : Differences} → (differences_of first second map row).answer ≡ Ok d → refusal_of first second map row ≡ None
+  nothing_refused {d} e = go (refusal_of first second map row) e
     where
-      go : Dec (length first ≡ 65536) → Dec (length second ≡ 65536) → Pair first second
-      go (yes f) (yes s) = record { first_size = f; second_size = s }
-      go (yes f) (no s) = let one : ◌≡◌ {A = ℕ} 1 0 = rw (eq-eqb _ _ f, ne_eqb _ _ s) at e in absurd (omega arith)
-      go (no f) s = let one : ◌≡◌ {A = ℕ} 1 0 = rw (ne_eqb _ _ f) at e in absurd (omega arith)
+      go : (r : Option Refusal) → (outcome r (stretches_of first second) (marks_of map) row).answer ≡ Ok d → r ≡ None
+      go None e = refl
+      go (Some r) e = absurd (cc)
 
-  pub usable : lengths_refusal first second has-map map ≡ 0 → Usable has-map map
-  unfolding lengths_refusal
-  usable e = record { size = λ h. settled (ℕ_discrete (length map) 8192) (wrong h) }
-    where
-      wrong : has-map ≡ true → (length map ≡ 8192 → ⊥) → length map ≡ 8192
-      wrong h m =
-          let p = paired e in
-          let two : ◌≡◌ {A = ℕ} 2 0 = rw (eq-eqb _ _ p.first_size, eq-eqb _ _ p.second_size, h, ne_eqb _ _ m) at e in
-          absurd (omega arith)
+  pub lengths_right : refusal_of first second map row ≡ None → (memories_right first second ≡ true) × (map_right map ≡ true)
+  unfolding refusal_of
+  lengths_right e = let all = first_right (memories_right first second) (map_right map) _ e in (all.0, all.1)
 
-  module _ (row : List ℕ) where
-    -- Where an answer's refusal is 0, no test failed, and so no length is refused.
-    pub nothing_refused : (differences_of first second has-map map row).answer.refusal ≡ 0 → refusal_of first second has-map map row ≡ 0
-    nothing_refused e = settled (ℕ_discrete (refusal_of first second has-map map row) 0) (λ n. rw (ne_eqb _ _ n) at e)
+  -- A row of 65,536 numbers is never too short.
+  pub room_enough : memories_right first second ≡ true → map_right map ≡ true → 65536 ≤ length row → refusal_of first second map row ≡ None
+  unfolding refusal_of
+  room_enough m r h =
+      let enough : 2 * length (stretches_of first second) ≤ length row = omega (arith, few first second) in
+      rw (m, r, le-leb _ _ enough)
 
-    pub lengths_right : refusal_of first second has-map map row ≡ 0 → lengths_refusal first second has-map map ≡ 0
+  -- ---- for the proof of the comparison: which of the tests failed
+
+  pub wrong_first : (length first ≡ 65536 → ⊥) → refusal_of first second map row ≡ Some Memory
+  unfolding refusal_of
+  wrong_first f = rw (ne_eqb _ _ f)
+
+  module _ (f : length first ≡ 65536) where
+    pub wrong_second : (length second ≡ 65536 → ⊥) → refusal_of first second map row ≡ Some Memory
     unfolding refusal_of
-    lengths_right e = settled (ℕ_discrete (lengths_refusal first second has-map map) 0) (λ n. rw (ne_eqb _ _ n) at e)
+    wrong_second s = rw (eq-eqb _ _ f, ne_eqb _ _ s)
 
-    -- A row of 65,536 numbers is never too short.
-    pub room_enough : lengths_refusal first second has-map map ≡ 0 → 65536 ≤ length row → refusal_of first second has-map map row ≡ 0
-    unfolding refusal_of
-    room_enough z h =
-        let enough : 2 * length (stretches_of first second) ≤ length row = omega (arith, few first second) in
-        rw (eq-eqb _ _ z, le-leb _ _ enough)
+    module _ (s : length second ≡ 65536) where
+      pub wrong_map : map_right map ≡ false → refusal_of first second map row ≡ Some Map
+      unfolding refusal_of
+      wrong_map m = rw (eq-eqb _ _ f, eq-eqb _ _ s, m)
+
+      module _ (r : map_right map ≡ true) where
+        pub short_row : length row < 2 * length (stretches_of first second) → refusal_of first second map row ≡ Some Room
+        unfolding refusal_of
+        short_row h = rw (eq-eqb _ _ f, eq-eqb _ _ s, r, lt-leb _ _ h)
+
+        pub none_wrong : 2 * length (stretches_of first second) ≤ length row → refusal_of first second map row ≡ None
+        unfolding refusal_of
+        none_wrong h = rw (eq-eqb _ _ f, eq-eqb _ _ s, r, le-leb _ _ h)

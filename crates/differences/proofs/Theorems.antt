@@ -101,7 +101,7 @@ module _ (test : ℕ → Bool) where
       not_there : {k : ℕ} → suc s.last ≤ k → test k ≡ true → test (suc s.last) ≡ false → (suc s.last < k → ⊥) → ⊥
       not_there {k} a t f n = let there : k ≡ suc s.last = omega arith in both_answers (rw there at t) f
 
-  few_from : (at : ℕ) (stretches : List Stretch) → MaximalFrom test at stretches → 2 * length stretches + at ≤ 65537
+  pub few_from : (at : ℕ) (stretches : List Stretch) → MaximalFrom test at stretches → 2 * length stretches + at ≤ 65537
   few_from at [] m = omega (arith, m.ahead)
   few_from at (s ∷ []) m = omega (arith, m.0, m.1.before.ahead, m.1.throughout.within)
   few_from at (s ∷ t ∷ rest) m =

@@ -1,62 +1,74 @@
--- The walk to the next stretch, and to its end, one address at a time.
+-- The next stretch from an address on, by what two looks for an address find: the first that passes the test, and the first behind it that
+-- does not. It is the first of the stretches that are left.
 -- Assumes nothing.
-use Prim.Native.Nat.{ℕ, ◌+◌, ◌<◌, ◌≤◌}
-use mathlib.Core.Bool.{true, false}
-use mathlib.Core.Path.{◌≡◌}
-use mathlib.Core.List.{List}
-use native.Mathlib.Decide.{dec_lt}
-use native.Mathlib.Numerals.{unary_clauses}
-use native.Mathlib.Omega.{arith}
-use lib.Dec.{eqb}
-use lib.ListN.{get_or}
-use Rattle.differences.specs.Calls.{differ}
-use Rattle.differences.specs.Maximal.{Throughout, no_address, one_behind, both_answers, settled}
-use Rattle.differences.specs.Walk.{Found}
+use Rattle.std.proofs.Common.{ℕ, suc, ◌-◌, ◌<◌, ◌≤◌, Bool, true, false, ◌≡◌, List, [], ◌∷◌, Option, None, Some, length, arith}
+use Rattle.std.proofs.Math.Decide.{dec_lt}
+use Rattle.std.specs.Option.{MatchOption, unwrap_or}
+use Rattle.differences.specs.Stretches.{Stretch, stretch, stretches_from}
+use Rattle.differences.specs.Maximal.{Next, MaximalFrom, only, both_answers, settled}
+use Rattle.differences.proofs.Maximal.{maximal}
+use Rattle.differences.proofs.Theorems.{few_from}
 
-module _ (first second : List ℕ) where
-  -- Up to `at` nothing differs.
-  pub record Seeking (from at : ℕ) : Type 0 where
-    pub before : Throughout (differ first second) false from at
+module _ (test : ℕ → Bool) where
+  -- What a look for the first address from one on with an answer finds, where the test has the other answer at any address before it.
+  abbrev pub Sought : Bool → Bool → ℕ → Option ℕ → Type 0
+  Sought answer other from found =
+      MatchOption found ((k : ℕ) → from ≤ k → k < 65536 → test k ≡ other)
+      (λ i. (from ≤ i) × (i < 65536) × (test i ≡ answer) × ((k : ℕ) → from ≤ k → k < i → test k ≡ other))
 
-  pub seek : {from : ℕ} → from ≤ 65536 → Seeking from from
-  seek h = record { before = no_address h }
+  -- The next stretch from an address on: its first address, and the one behind its last.
+  pub record Found (from at end : ℕ) : Type 0 where
+    pub next : Next test from at end
+    pub some : at < end
 
-  pub still_equal : {from at : ℕ} → Seeking from at → at < 65536 → eqb (get_or first at 0) (get_or second at 0) ≡ true → Seeking from (at + 1)
-  still_equal s h e = record { before = simp unary_clauses (one_behind s.before h (rw e)) }
-
-  -- There a stretch begins, unless the memory ends; up to `end` everything differs.
-  pub record Within (from at end : ℕ) : Type 0 where
-    pub before : Throughout (differ first second) false from at
-    pub throughout : Throughout (differ first second) true at end
-    pub there : at < 65536 → differ first second at ≡ true
-
-  enter : {from at : ℕ} → Seeking from at → (at < 65536 → differ first second at ≡ true) → Within from at at
-  enter s d = record { before = s.before; throughout = no_address s.before.within; there = d }
-
-  pub enter_stretch : {from at : ℕ} → Seeking from at → eqb (get_or first at 0) (get_or second at 0) ≡ false → Within from at at
-  enter_stretch s e = enter s (λ h. rw e)
-
-  pub enter_none : {from at : ℕ} → Seeking from at → 65536 ≤ at → Within from at at
-  enter_none s h = enter s (λ k. absurd (omega arith))
-
-  pub still_different : {from at end : ℕ} → Within from at end → end < 65536 → differ first second end ≡ true → Within from at (end + 1)
-  still_different w h d = record { before = w.before; throughout = simp unary_clauses (one_behind w.throughout h d); there = w.there }
-
-  leave : {from at end : ℕ} → Within from at end → (end < 65536 → differ first second end ≡ false)
-      → Found first second from (record { first = at; end = end })
-  leave {from} {at} {end} w e = record {
-    next = record { before = w.before; throughout = w.throughout; behind = e };
-    some = λ h. settled (dec_lt at end) (λ n. absurd (not_empty h n));
+  -- The first address was found, and behind it the end was sought.
+  pub found : {from at : ℕ} (sought : Option ℕ) → Sought true false from (Some at) → Sought false true at sought
+      → Found from at (unwrap_or sought 65536)
+  found {from} {at} None a e = record {
+    next = record {
+      before = record { ahead = a.0; within = omega (arith, a.1); each = a.3 };
+      throughout = record { ahead = omega (arith, a.1); within = omega arith; each = e };
+      behind = λ h. absurd (omega arith);
+    };
+    some = a.1;
   }
+  found {from} {at} (Some end) a e = record {
+    next = record {
+      before = record { ahead = a.0; within = omega (arith, a.1); each = a.3 };
+      throughout = record { ahead = e.0; within = omega (arith, e.1); each = e.3 };
+      behind = λ h. e.2;
+    };
+    some = settled (dec_lt at end) (λ n. let same : end ≡ at = omega (arith, e.0) in absurd (both_answers a.2 (rw same at e.2)));
+  }
+
+  -- the stretches that are left
+  abbrev left : ℕ → List Stretch
+  left at = stretches_from test at (65536 - at)
+
+  left_maximal : (at : ℕ) → at ≤ 65536 → MaximalFrom test at (left at)
+  left_maximal at h = maximal test (65536 - at) at (omega arith)
+
+  -- No address was found: none is left.
+  pub none_left : (from : ℕ) → Sought true false from None → left from ≡ []
+  unfolding stretches_from
+  none_left from e = go (dec_lt 65536 from)
     where
-      not_empty : at < 65536 → (at < end → ⊥) → ⊥
-      not_empty h n =
-          let same : end ≡ at = omega (arith, w.throughout.ahead) in
-          both_answers (w.there h) (rw same at (e (omega arith)))
+      go : Dec (65536 < from) → left from ≡ []
+      go (yes h) = let none : 65536 - from ≡ 0 = omega arith in rw none
+      go (no h) = only test from (left from) [] (left_maximal from (omega arith)) (record { ahead = omega arith; within = omega arith; each = e })
 
-  pub leave_stretch : {from at end : ℕ} → Within from at end → differ first second end ≡ false
-      → Found first second from (record { first = at; end = end })
-  leave_stretch w d = leave w (λ h. d)
+  -- A stretch was found: it is the first of those that are left, and the others are left from its end on.
+  pub one_left : {from at end : ℕ} → Found from at end → left from ≡ stretch at (end - 1) ∷ left end
+  one_left {from} {at} {end} f =
+      let behind : suc (end - 1) ≡ end = omega (arith, f.some) in
+      only test from (left from) (stretch at (end - 1) ∷ left end)
+      (left_maximal from (omega (arith, f.next.before.ahead, f.next.before.within)))
+      (omega (arith, f.some), rw behind f.next, rw behind (left_maximal end f.next.throughout.within))
 
-  pub leave_memory : {from at end : ℕ} → Within from at end → 65536 ≤ end → Found first second from (record { first = at; end = end })
-  leave_memory w h = leave w (λ k. absurd (omega arith))
+-- There are never more than 32,768.
+pub few_left : (test : ℕ → Bool) (from : ℕ) → length (left test from) ≤ 32768
+unfolding stretches_from
+few_left test from = elim (dec_lt 65536 from) [
+  | yes h ↦ let none : 65536 - from ≡ 0 = omega arith in rw none (omega arith)
+  | no h ↦ omega (arith, few_from test from (left test from) (left_maximal test from (omega arith)))
+]

@@ -1,6 +1,9 @@
 -- What differs between two memories: what a comparison answers, and what it leaves in the lent row.
-use Rattle.std.specs.Prelude.{ℕ, ◌*◌, Bool, false, cond, not, ◌&&◌, List, [], ◌∷◌, ◌++◌, eqb, leb, length, get_or, drop}
+use Rattle.std.specs.Prelude.{ℕ, ◌*◌, Bool, false, true, cond, not, ◌&&◌, List, [], ◌∷◌, ◌++◌, eqb, leb, length, get_or, drop}
+use Rattle.std.specs.Prelude.{Option, None, Some, Result, Ok, Err}
 use Rattle.laws.specs.Filled.{Filled, filled}
+use Rattle.refusals.specs.declared.Refusal.{Refusal}
+use Rattle.refusals.specs.declared.Refusal.TheVariants.{Memory, Map, Room}
 use Rattle.marks.specs.Maps.{is_marked}
 use Rattle.differences.specs.Stretches.{Stretch, stretches_from, touched}
 use Rattle.differences.specs.declared.Differences.{Differences}
@@ -14,8 +17,9 @@ abbrev pub stretches_of : List ℕ → List ℕ → List Stretch
 stretches_of first second = stretches_from (differ first second) 0 65536
 
 -- The marks of a map where there is one; without it, none.
-abbrev pub marks_of : Bool → List ℕ → ℕ → Bool
-marks_of has-map map k = has-map && is_marked map k
+abbrev pub marks_of : Option (List ℕ) → ℕ → Bool
+marks_of None k = false
+marks_of (Some map) k = is_marked map k
 
 -- First and last address of each stretch, one after the other.
 unfoldable pub numbers_of : List Stretch → List ℕ
@@ -26,31 +30,32 @@ numbers_of (s ∷ rest) = s.first ∷ s.last ∷ numbers_of rest
 unfoldable pub written : List Stretch → List ℕ → List ℕ
 written stretches row = numbers_of stretches ++ drop (2 * length stretches) row
 
--- 1 exactly if either memory is not 65,536 bytes; then 2 exactly if there is a map and it is not 8,192 bytes; else 0.
-unfoldable pub lengths_refusal : List ℕ → List ℕ → Bool → List ℕ → ℕ
-lengths_refusal first second has-map map =
-    cond (eqb (length first) 65536 && eqb (length second) 65536)
-    (cond has-map (cond (eqb (length map) 8192) 0 2) 0)
-    1
+-- Whether both memories are 65,536 bytes; whether the map, if there is one, is 8,192 bytes; whether a row has two numbers for each stretch.
+abbrev pub memories_right : List ℕ → List ℕ → Bool
+memories_right first second = eqb (length first) 65536 && eqb (length second) 65536
 
--- After these, 3 exactly if the row has fewer than two numbers for each stretch.
-unfoldable pub refusal_of : List ℕ → List ℕ → Bool → List ℕ → List ℕ → ℕ
-refusal_of first second has-map map row =
-    cond (eqb (lengths_refusal first second has-map map) 0)
-    (cond (leb (2 * length (stretches_of first second)) (length row)) 0 3)
-    (lengths_refusal first second has-map map)
+abbrev pub map_right : Option (List ℕ) → Bool
+map_right None = true
+map_right (Some map) = eqb (length map) 8192
 
--- Refused: the number, no stretches, no touch.
-abbrev pub refused : ℕ → Differences
-refused refusal = record { refusal = refusal; stretches = 0; touched = false }
+abbrev pub room_for : List Stretch → List ℕ → Bool
+room_for stretches row = leb (2 * length stretches) (length row)
+
+-- The first of these that does not hold is why a comparison is refused; it is accepted where all do.
+unfoldable pub refusal_of : List ℕ → List ℕ → Option (List ℕ) → List ℕ → Option Refusal
+refusal_of first second map row =
+    cond (memories_right first second)
+    (cond (map_right map) (cond (room_for (stretches_of first second) row) None (Some Room)) (Some Map))
+    (Some Memory)
 
 -- Accepted: how many stretches there are, and whether one of them touches a mark.
 abbrev pub accepted : List Stretch → (ℕ → Bool) → Differences
-accepted stretches mark = record { refusal = 0; stretches = length stretches; touched = touched mark stretches }
+accepted stretches mark = record { stretches = length stretches; touched = touched mark stretches }
 
 -- What a comparison answers, and what it leaves in the row: refused, the row as it was.
-abbrev pub differences_of : List ℕ → List ℕ → Bool → List ℕ → List ℕ → Filled Differences
-differences_of first second has-map map row =
-    let stretches = stretches_of first second in
-    let refusal = refusal_of first second has-map map row in
-    cond (eqb refusal 0) (filled (accepted stretches (marks_of has-map map)) (written stretches row)) (filled (refused refusal) row)
+abbrev pub outcome : Option Refusal → List Stretch → (ℕ → Bool) → List ℕ → Filled (Result Differences Refusal)
+outcome None stretches mark row = filled (Ok (accepted stretches mark)) (written stretches row)
+outcome (Some refusal) stretches mark row = filled (Err refusal) row
+
+abbrev pub differences_of : List ℕ → List ℕ → Option (List ℕ) → List ℕ → Filled (Result Differences Refusal)
+differences_of first second map row = outcome (refusal_of first second map row) (stretches_of first second) (marks_of map) row

@@ -1,12 +1,12 @@
 -- What it is for a list to be the maximal stretches of the addresses that pass a test, and that no two lists are: the theorem is `only`, and
 -- all else below the definitions is for proofs. That the defined list is so is `maximal` (proofs/Maximal).
 -- Assumes nothing.
-use Prim.Native.Nat.{ℕ, zero, suc, ◌+◌, ◌<◌, ◌≤◌}
-use Rattle.std.specs.Prelude.{Bool, true, false, cond, ◌≡◌, eqb}
-use Rattle.std.proofs.Common.{true≢false, sym, ◌∙◌, eq-eqb, ne_eqb}
+use Prim.Native.Nat.{ℕ, suc, ◌<◌, ◌≤◌}
+use Rattle.std.specs.Prelude.{Bool, true, false, ◌≡◌}
+use Rattle.std.proofs.Common.{true≢false, sym, ◌∙◌}
 use Rattle.std.proofs.Math.Path.{refl}
 use mathlib.Core.List.{List, [], ◌∷◌}
-use Rattle.std.proofs.Math.Decide.{ℕ_discrete, dec_lt}
+use Rattle.std.proofs.Math.Decide.{dec_lt}
 use native.Mathlib.Omega.{arith}
 use Rattle.differences.specs.Stretches.{Stretch, stretch}
 

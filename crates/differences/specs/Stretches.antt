@@ -1,10 +1,7 @@
 -- The maximal stretches of the addresses that pass a test.
 use Rattle.std.specs.Prelude.{ℕ, zero, suc, ◌-◌, Bool, false, cond, ◌||◌, List, [], ◌∷◌, eqb}
-
 -- A stretch of addresses: its first and its last. One address is a stretch, too.
-pub record Stretch : Type 0 where
-  pub first : ℕ
-  pub last : ℕ
+pub use Rattle.differences.specs.declared.Stretch.{Stretch}
 
 abbrev pub stretch : ℕ → ℕ → Stretch
 stretch first last = record { first = first; last = last }

@@ -1,62 +1,43 @@
 -- Past the lengths it is the count that decides whether the row has room; only then is anything written.
 -- Assumes nothing.
-use Prim.Native.Nat.{ℕ, ◌*◌, ◌<◌, ◌≤◌}
-use mathlib.Core.Bool.{Bool}
-use mathlib.Core.Path.{◌≡◌}
-use mathlib.Core.List.{List}
-use lib.ListN.{length}
-use borrow.Author.Tests.{eq-eqb, ne_eqb, le-leb, lt-leb}
-use Rattle.laws.specs.Filled.{filled}
-use Rattle.differences.specs.Calls.{stretches_of, marks_of, written, lengths_refusal, refusal_of}
-use Rattle.differences.specs.Calls.{refused, accepted, differences_of}
-use Rattle.differences.specs.Walk.{Pair, Usable, Room}
-use Rattle.differences.proofs.Refusals.{paired, usable}
-use Rattle.differences.specs.declared.Differences.{Differences}
-use borrow.Author.Rules.{rules}
+use Rattle.std.proofs.Common.{◌*◌, ◌<◌, ◌≤◌, length}
+use Rattle.std.specs.Option.{option_copied}
+use Rattle.std.proofs.lemmas.Result.{err_from_is_err_and}
+use Rattle.differences.specs.Calls.{stretches_of}
+use Rattle.differences.proofs.Refusals.{wrong_first, wrong_second, wrong_map, short_row, none_wrong}
 use Rattle.differences.proofs.between.Goals as goal
 
-module _ (first second : List ℕ) (has-map : Bool) (map row : List ℕ)
-    {refusal : ℕ} (is : refusal ≡ lengths_refusal first second has-map map) where
-  wrong_lengths : {r : Differences} → (refusal ≡ 0 → ⊥) → r ≡ refused refusal → filled r row ≡ differences_of first second has-map map row
-  unfolding refusal_of
-  wrong_lengths n e = rw (e, ← is, ne_eqb _ _ n, ne_eqb _ _ n)
+pub returns-in_err-first : goal.returns-in_err-first
+returns-in_err-first c =
+    let p = err_from_is_err_and c.from_residual.result c.from_residual.ensures.1 in
+    rw (p.1, p.2, c.in_err-first.ensures.0, wrong_first _ _ _ _ c.in_err-first.ensures.1)
 
-  module _ (z : refusal ≡ 0) where
-    right_pair : Pair first second
-    right_pair = paired first second has-map map (rw (← is) z)
+pub returns-in_err-second : goal.returns-in_err-second
+returns-in_err-second c =
+    let p = err_from_is_err_and c.from_residual-in_err-second.result c.from_residual-in_err-second.ensures.1 in
+    rw (p.1, p.2, c.in_err-second.ensures.0, wrong_second _ _ _ _ c.in_ok-first.ensures.1 c.in_err-second.ensures.1)
 
-    right_map : Usable has-map map
-    right_map = usable first second has-map map (rw (← is) z)
+pub returns-in_err-map : goal.returns-in_err-map
+returns-in_err-map c =
+    let p = err_from_is_err_and c.from_residual-in_err-map.result c.from_residual-in_err-map.ensures.1 in
+    rw (p.1, p.2, c.in_err-map.ensures.0, wrong_map _ _ _ _ c.in_ok-first.ensures.1 c.in_ok-second.ensures.1 c.in_err-map.ensures.1)
 
-    module _ {found : Differences} (f : found ≡ accepted (stretches_of first second) (marks_of has-map map)) where
-      short_row : {r : Differences} → length row < 2 * found.stretches → r ≡ refused 3
-          → filled r row ≡ differences_of first second has-map map row
-      unfolding refusal_of
-      short_row h e =
-          let short : length row < 2 * length (stretches_of first second) = rw f at h in
-          rw (e, ← is, eq-eqb _ _ z, lt-leb _ _ short)
-
-      room : 2 * found.stretches ≤ length row → Room (stretches_of first second) (2 * found.stretches) row
-      room h = record { two_each = rw f; room = h }
-
-      all_told : {left : List ℕ} → 2 * found.stretches ≤ length row → left ≡ written (stretches_of first second) row
-          → filled found left ≡ differences_of first second has-map map row
-      unfolding refusal_of
-      all_told h e =
-          let enough : 2 * length (stretches_of first second) ≤ length row = rw f at h in
-          rw (e, f, ← is, eq-eqb _ _ z, le-leb _ _ enough)
-
-pub returns-then-refusal-ne0 : goal.returns-then-refusal-ne0
-returns-then-refusal-ne0 c = search (rules, wrong_lengths)
-
-pub count-found-requires : goal.count-found-requires
-count-found-requires c = search (rules, right_pair, right_map)
-
-pub returns-then-row-numbers : goal.returns-then-row-numbers
-returns-then-row-numbers c = search (rules, short_row)
-
-pub write-requires : goal.write-requires
-write-requires c = search (rules, right_pair, room)
+pub returns-then-row-many : goal.returns-then-row-many
+returns-then-row-many c =
+    let found = rw (c.in_ok-first.ensures.0, c.in_ok-second.ensures.0) at c.count-found.ensures in
+    let less : length c.args.row.now < 2 * length (stretches_of c.args.first.now c.args.second.now) = rw found at c.if-row-many.true in
+    rw (short_row _ _ _ _ c.in_ok-first.ensures.1 c.in_ok-second.ensures.1 c.in_ok-map.ensures.1 less)
 
 pub returns : goal.returns
-returns c = search (rules, all_told)
+returns c =
+    let first = c.args.first.now in
+    let second = c.args.second.now in
+    let found = rw (c.in_ok-first.ensures.0, c.in_ok-second.ensures.0, c.in_ok-map.ensures.0) at c.count-found.ensures in
+    let left = rw (c.in_ok-first.ensures.0, c.in_ok-second.ensures.0) at c.write.ensures in
+    let enough : 2 * length (stretches_of first second) ≤ length c.args.row.now = rw found at c.if-row-many.false in
+    rw (
+      found,
+      left,
+      none_wrong first second (option_copied c.args.map) c.args.row.now c.in_ok-first.ensures.1 c.in_ok-second.ensures.1
+          c.in_ok-map.ensures.1 enough,
+    )

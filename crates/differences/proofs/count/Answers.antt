@@ -1,24 +1,15 @@
--- The invariant is `Counting`: what was counted and touched so far, together with the stretches that are left, is all.
+-- The invariant is `Counting`: each turn counts the first of the stretches that are left.
 -- Assumes nothing.
-use Prim.Native.Nat.{◌-◌}
-use mathlib.Core.Logic.{⊎_elim}
-use borrow.Author.Rules.{rules}
-use Rattle.differences.specs.Calls.{marks_of}
-use Rattle.differences.proofs.Counting.{Counting, begin_count, all_counted, countable, farther, touched_before, touched_now}
+use Rattle.differences.proofs.Counting.{all_counted, countable, one_counted}
+use Rattle.differences.proofs.Walks.{few_left}
 use Rattle.differences.proofs.count.Goals as goal
-use Rattle.differences.proofs.count.Goals.{else-touched, then-touched}
+use Rattle.differences.proofs.count.Goals.{Else-found, Then-found}
 
-pub loop-next-init : goal.loop-next-init
-loop-next-init c = search (rules, begin_count)
+pub overflow_add-found : goal.overflow_add-found
+overflow_add-found c = let e = rw c.in-Some.is at c.next.ensures.steps in countable _ _ c.loop-stretch.invariant e (few_left _ _)
 
-pub overflow_add-stretches : goal.overflow_add-stretches
-overflow_add-stretches c = let h = countable _ _ _ c.loop-next.invariant c.loop-next-test.true in search rules
-
-pub loop-next-smaller : goal.loop-next-smaller
-loop-next-smaller c = search (rules, farther)
-
-pub loop-next-preserved : goal.loop-next-preserved
-loop-next-preserved c = elim c.if-touched.branch [ then-touched t ↦ search (rules, touched_before) | else-touched t ↦ search (rules, touched_now) ]
+pub loop-stretch-preserved : goal.loop-stretch-preserved
+loop-stretch-preserved c = let e = rw c.in-Some.is at c.next.ensures.steps in one_counted _ _ c.loop-stretch.invariant e (rw (c.if-found.false, c.touches.ensures))
 
 pub returns : goal.returns
-returns c = search (rules, all_counted)
+returns c = let e = rw c.in-None.is at c.next.ensures.steps in all_counted _ _ c.loop-stretch.invariant e.0
