@@ -2,12 +2,12 @@
 -- Assumes nothing.
 use Rattle.std.proofs.Common.{◌≡◌, refl, ℕ, ◌≢◌, List, length, take, rules, eq-eqb, ne_eqb, Ok, Err}
 use Rattle.refusals.specs.declared.Refusal.{Refusal}
-use Rattle.editions.specs.Editions.{is_edition, edition_of, edition_named}
+use Rattle.editions.specs.Editions.{edition_named}
 use Rattle.editions.specs.declared.Edition.{Edition}
 use Rattle.text.specs.Line.{blank, adds}
 use Rattle.text.specs.Quoted.{text}
 use Rattle.text.specs.declared.Line.{Line}
-use Rattle.engine.proofs.Refused.{named_ok, named_err}
+use Rattle.engine.proofs.Refused.{edition_ok, edition_err}
 use Rattle.runner.specs.Session.{edition_byte, run_in, session_of, reported, refused}
 use Rattle.runner.specs.Told.{Told}
 use Rattle.runner.specs.declared.Report.{Report}
@@ -28,12 +28,12 @@ module _ (input : List ℕ) where
     no_edition : {e : Refusal} → Err e ≡ edition_named (edition_byte input) → Told (refused (text "refused 9\n") input) r input
         → Told (session_of input) r input
     unfolding session_of
-    no_edition e t = rw (eq-eqb _ _ size, (named_err (is_edition (edition_byte input)) _ _ e).0) t
+    no_edition e t = rw (eq-eqb _ _ size, (edition_err (edition_byte input) e).0) t
 
     accepts : {edition : Edition} {after : List ℕ} → Ok edition ≡ edition_named (edition_byte input)
         → Told (reported (take 12 input) (run_in edition input)) r after → Told (session_of input) r after
     unfolding session_of
-    accepts e t = let is = named_ok (is_edition (edition_byte input)) (edition_of (edition_byte input)) _ e in rw (eq-eqb _ _ size, is.0, ← is.1) t
+    accepts e t = let is = edition_ok (edition_byte input) e in rw (eq-eqb _ _ size, is.0, ← is.1) t
 
 pub returns-in_default : goal.returns-in_default
 unfolding adds
