@@ -72,7 +72,7 @@ pub slice_bounds-set_devices-end : goal.slice_bounds-set_devices-end
 slice_bounds-set_devices-end c = search (rules, devices_room)
 
 pub shape_of-head : goal.shape_of-head
-shape_of-head c = still c.args.head.now c.requires c.args.player c.set_whole.ensures c.args.steps
+shape_of-head c = still c.args.head.now (omega arith) c.args.player c.set_whole.ensures c.args.steps
     c.set_number.ensures c.set_devices.ensures
 
 pub returns : goal.returns
