@@ -21,12 +21,13 @@ pub begun : (p : Packet) {player : Player} {map : List ℕ}
     → record { player = player; world = p.world; chip = p.chip; fetched = map } ≡ begun_of p
 begun p e = ap (λ (s : Start). record { player = s.player; world = p.world; chip = p.chip; fetched = s.fetched }) e
 
--- The packet in which a playing is left.
-pub ended : (q : Playing) {laid head reads writes made : List ℕ} → head ≡ laid → reads ≡ with_marks q.world.reads 0
-    → writes ≡ with_marks q.world.writes 0 → made ≡ made_of (with_marks q.world.reads 0) q.fetched
-    → packet_of head q.chip q.world.memory reads writes q.fetched made ≡ finished laid q
+-- The packet in which a playing is left: what was lent to it came back.
+pub ended : (q : Playing) {laid head chip memory read stored fetched reads writes made : List ℕ}
+    → chip ≡ q.chip → memory ≡ q.world.memory → read ≡ q.world.reads → stored ≡ q.world.writes → fetched ≡ q.fetched
+    → head ≡ laid → reads ≡ with_marks read 0 → writes ≡ with_marks stored 0 → made ≡ made_of (with_marks read 0) fetched
+    → packet_of head chip memory reads writes fetched made ≡ finished laid q
 unfolding finished
-ended q h r w m = rw (h, r, w, m)
+ended q c m s t f h r w d = rw (h, r, w, d, c, m, s, t, f)
 
 -- What is left of a packet that was played on, and of two.
 pub answered : (p : Packet) (r : Request) {b : Playing} (o : Progress) {left : Packet} → b ≡ begun_of p
@@ -36,22 +37,14 @@ answered p r o b e l =
     let all : o ≡ reached r p = e ∙ rw b in
     l ∙ ap (λ (o : Progress). finished (head_of p.head o.playing.player o.steps) o.playing) all
 
-pub answered_both : (p q : Packet) (r : Request) {b d : Playing} (o : Pair)
-    {head reads writes made head₂ reads₂ writes₂ made₂ : List ℕ}
-    → b ≡ begun_of p → d ≡ begun_of q
-    → o ≡ beside_of r.edition r.until r.budget b d
-    → head ≡ told o.alike (head_of p.head o.first.player o.steps)
-    → reads ≡ with_marks o.first.world.reads 0 → writes ≡ with_marks o.first.world.writes 0
-    → made ≡ made_of (with_marks o.first.world.reads 0) o.first.fetched
-    → head₂ ≡ told o.alike (head_of q.head o.second.player o.steps)
-    → reads₂ ≡ with_marks o.second.world.reads 0 → writes₂ ≡ with_marks o.second.world.writes 0
-    → made₂ ≡ made_of (with_marks o.second.world.reads 0) o.second.fetched
-    → two (packet_of head o.first.chip o.first.world.memory reads writes o.first.fetched made)
-    (packet_of head₂ o.second.chip o.second.world.memory reads₂ writes₂ o.second.fetched made₂)
-    ≡ played_both_on r p q
-answered_both p q a o b d e h r w m h₂ r₂ w₂ m₂ =
-    let all : o ≡ both_reached a p q = e ∙ rw (b, d) in
-    rw (ended o.first h r w m, ended o.second h₂ r₂ w₂ m₂)
+pub answered_both : (p q : Packet) (r : Request) {b d : Playing} (o : Pair) {first second : Packet}
+    → b ≡ begun_of p → d ≡ begun_of q → o ≡ beside_of r.edition r.until r.budget b d
+    → first ≡ finished (told o.alike (head_of p.head o.first.player o.steps)) o.first
+    → second ≡ finished (told o.alike (head_of q.head o.second.player o.steps)) o.second
+    → two first second ≡ played_both_on r p q
+answered_both p q r o b d e f g =
+    let all : o ≡ both_reached r p q = e ∙ rw (b, d) in
+    rw (f, g)
     (ap
     (λ (o : Pair).
     two

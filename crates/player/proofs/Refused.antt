@@ -8,8 +8,8 @@ use Rattle.editions.specs.Editions.{is_edition}
 use Rattle.state.specs.Registers.{is_whole}
 use Rattle.player.specs.declared.head.Request.{Request}
 use Rattle.player.specs.Head.{edition_in, until_in, registers_in, request_of, asked_in}
-use Rattle.player.specs.Packet.{Packet, refusal_of, answer, answers, played_of, played_beside}
-use Rattle.player.specs.Promises.{played_on, Two, two, played_both_on}
+use Rattle.player.specs.Packet.{Packet, refusal_of, answer, Answers, answers, played_of, played_beside}
+use Rattle.player.specs.Promises.{played_on, Two, two, played_both_on, played_second}
 
 -- ---- what a head asks: w, n and e are its tests
 
@@ -102,11 +102,14 @@ module _ (p q : Packet) where
   unfolding played_beside
   first_refused z = rw z
 
-  pub second_refused : {e : Refusal} → refusal_of p ≡ Ok tt → refusal_of q ≡ Err e → answers (Err e) p q ≡ played_beside p q
-  unfolding played_beside
-  second_refused z e = rw (z, e)
+  pub second_refused : {asked : Request} {e : Refusal} → refusal_of q ≡ Err e → answers (Err e) p q ≡ played_second asked p q
+  second_refused z = rw z
 
-  pub both_accepted : {r : Request} {first second : Packet} → (refusal_of p ≡ Ok tt) × (r ≡ request_of p.head) → refusal_of q ≡ Ok tt
-      → two first second ≡ played_both_on r p q → answers (Ok tt) first second ≡ played_beside p q
+  pub second_accepted : {asked : Request} {first second : Packet} → refusal_of q ≡ Ok tt
+      → two first second ≡ played_both_on asked p q → answers (Ok tt) first second ≡ played_second asked p q
+  second_accepted z l = rw z (ap (λ (t : Two). answers (Ok tt) t.first t.second) l)
+
+  pub first_accepted : {r : Request} {a : Answers} → (refusal_of p ≡ Ok tt) × (r ≡ request_of p.head) → a ≡ played_second r p q
+      → a ≡ played_beside p q
   unfolding played_beside
-  both_accepted z e l = rw (z.0, e, ← z.1) (ap (λ (t : Two). answers (Ok tt) t.first t.second) l)
+  first_accepted z l = l ∙ rw (z.0, z.1)

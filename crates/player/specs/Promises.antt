@@ -10,7 +10,7 @@ use Rattle.host.specs.declared.Player.{Player}
 use Rattle.player.specs.declared.head.Request.{Request}
 use Rattle.player.specs.Head.{request_of, head_of}
 use Rattle.player.specs.Packet as packet
-use Rattle.player.specs.Packet.{Packet, start_of, begun_of, made_of, finished}
+use Rattle.player.specs.Packet.{Packet, refusal_of, start_of, begun_of, made_of, finished}
 
 abbrev pub packet_of : List ℕ → List ℕ → List ℕ → List ℕ → List ℕ → List ℕ → List ℕ → Packet
 packet_of head chip memory reads writes fetched made =
@@ -100,3 +100,11 @@ PlaysBoth asked head chip memory reads writes fetched made head₂ chip₂ memor
     two (after head chip memory reads writes fetched made) (after head₂ chip₂ memory₂ reads₂ writes₂ fetched₂ made₂)
     ≡ played_both_on asked (before head chip memory reads writes fetched made)
     (before head₂ chip₂ memory₂ reads₂ writes₂ fetched₂ made₂)
+
+-- Of two packets, the first of which is accepted and asks this.
+abbrev pub played_second : Request → Packet → Packet → packet.Answers
+played_second asked p q = let o = played_both_on asked p q in packet.answered_both (refusal_of q) p q o.first o.second
+
+abbrev pub AnswersSecond : Request
+    → Lent → Lent → Lent → Lent → Lent → Lent → Lent → Lent → Lent → Lent → Lent → Lent → Lent → Lent → Result Unit Refusal → Type 0
+AnswersSecond asked = AnswersBoth (played_second asked)

@@ -9,7 +9,7 @@ ghost use Rattle.std.specs.Prelude.{◌≡◌, ◌≤◌};
 ghost use Rattle.laws.specs.Lent.{shared, lent};
 ghost use Rattle.player.specs.Head.{head_of};
 ghost use Rattle.player.specs.Packet.{played_of, played_beside};
-ghost use Rattle.player.specs.Promises.{Answers, AnswersBoth, Plays, PlaysBoth, Begins, Finishes, Tells};
+ghost use Rattle.player.specs.Promises.{Answers, AnswersBoth, AnswersSecond, Plays, PlaysBoth, Begins, Finishes, Tells};
 
 use devices::Devices;
 use head::Request;
@@ -225,6 +225,56 @@ fn play_both_on(
     );
 }
 
+// The same, the second one's slices being tested here.
+fn play_second(
+    asked: Request,
+    head: &mut [u8; 64],
+    chip: &mut [u8; 512],
+    memory: &mut Memory,
+    reads: &mut Map,
+    writes: &mut Map,
+    fetched: &mut Map,
+    made: &mut Map,
+    head2: &mut [u8],
+    chip2: &mut [u8],
+    memory2: &mut [u8],
+    reads2: &mut [u8],
+    writes2: &mut [u8],
+    fetched2: &mut [u8],
+    made2: &mut [u8],
+) -> Result<(), Refusal>
+    requires { asked.until ≤ 4294967280 }
+    ensures { AnswersSecond asked (lent head) (lent chip) (lent memory) (lent reads) (lent writes) (lent fetched) (lent made)
+        (lent head2) (lent chip2) (lent memory2) (lent reads2) (lent writes2) (lent fetched2) (lent made2) result }
+{
+    let Some(head2) = head2.as_mut_array::<64>() else {
+        return Err(Refusal::Form);
+    };
+    let Some(chip2) = chip2.as_mut_array::<512>() else {
+        return Err(Refusal::Form);
+    };
+    head::asked(head2)?;
+    let Some(memory2) = memory2.as_mut_array::<65536>() else {
+        return Err(Refusal::Memory);
+    };
+    let Some(reads2) = reads2.as_mut_array::<8192>() else {
+        return Err(Refusal::Map);
+    };
+    let Some(writes2) = writes2.as_mut_array::<8192>() else {
+        return Err(Refusal::Map);
+    };
+    let Some(fetched2) = fetched2.as_mut_array::<8192>() else {
+        return Err(Refusal::Map);
+    };
+    let Some(made2) = made2.as_mut_array::<8192>() else {
+        return Err(Refusal::Map);
+    };
+    play_both_on(
+        asked, head, chip, memory, reads, writes, fetched, made, head2, chip2, memory2, reads2, writes2, fetched2, made2,
+    );
+    Ok(())
+}
+
 // Plays two packets on side by side, as the first one asks, and tells in byte 50 of both heads whether they were alike to the last step.
 // Refusals as of one packet, the first one's before the second's; refused, all stays as it was.
 pub fn beside(
@@ -268,30 +318,7 @@ pub fn beside(
     let Some(made) = made.as_mut_array::<8192>() else {
         return Err(Refusal::Map);
     };
-    let Some(head2) = head2.as_mut_array::<64>() else {
-        return Err(Refusal::Form);
-    };
-    let Some(chip2) = chip2.as_mut_array::<512>() else {
-        return Err(Refusal::Form);
-    };
-    head::asked(head2)?;
-    let Some(memory2) = memory2.as_mut_array::<65536>() else {
-        return Err(Refusal::Memory);
-    };
-    let Some(reads2) = reads2.as_mut_array::<8192>() else {
-        return Err(Refusal::Map);
-    };
-    let Some(writes2) = writes2.as_mut_array::<8192>() else {
-        return Err(Refusal::Map);
-    };
-    let Some(fetched2) = fetched2.as_mut_array::<8192>() else {
-        return Err(Refusal::Map);
-    };
-    let Some(made2) = made2.as_mut_array::<8192>() else {
-        return Err(Refusal::Map);
-    };
-    play_both_on(
+    play_second(
         asked, head, chip, memory, reads, writes, fetched, made, head2, chip2, memory2, reads2, writes2, fetched2, made2,
-    );
-    Ok(())
+    )
 }
