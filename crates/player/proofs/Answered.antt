@@ -1,10 +1,8 @@
 -- Of the calls of an answer: what is begun, what is played to, and what is left.
 -- Assumes nothing.
-use Prim.Native.Nat.{ℕ, ◌≤◌}
-use mathlib.Core.Bool.{Bool, true}
-use mathlib.Core.Path.{◌≡◌, refl, ap, ◌∙◌}
+use Prim.Native.Nat.{ℕ}
+use mathlib.Core.Path.{◌≡◌, ap, ◌∙◌}
 use mathlib.Core.List.{List}
-use lib.ListN.{length}
 use Rattle.watch.specs.Marks.{with_marks}
 use Rattle.host.specs.Turn.{Playing}
 use Rattle.host.specs.Play.{Progress, play_of}

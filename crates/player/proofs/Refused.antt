@@ -1,7 +1,8 @@
 -- What the tests of a call say of the refusal of a packet, and what a refusal says of the answer.
 -- Assumes nothing.
-use Rattle.std.specs.Prelude.{◌≡◌, refl, Bool, true, false, cond, ◌&&◌, leb, length, Result, Ok, Err}
-use Rattle.std.proofs.Common.{arith, ap, ◌∙◌, eq-eqb, ne_eqb}
+use Rattle.std.specs.Prelude.{ℕ, ◌≤◌, ◌≡◌, refl, List, Bool, true, false, cond, ◌&&◌, leb, length, Result, Ok, Err}
+use Rattle.std.proofs.Common.{arith, sym, ap, ◌∙◌, true≢false, eq-eqb, ne_eqb}
+use borrow.Author.Tests.{leb-true}
 use Rattle.refusals.specs.declared.Refusal.{Refusal}
 use Rattle.refusals.specs.declared.Refusal.TheVariants as reason
 use Rattle.editions.specs.Editions.{is_edition}
@@ -27,6 +28,16 @@ asked_err true true true x r rest h = absurd (grind (arith, h))
 asked_err true true false x r rest h = grind (arith, h)
 asked_err true false e x r rest h = grind (arith, h)
 asked_err false n e x r rest h = grind (arith, h)
+
+second : (s t : Bool) → (s && t) ≡ true → t ≡ true
+second true t h = h
+second false t h = absurd (true≢false (sym h))
+
+pub near : (head : List ℕ) {r : Request} → Ok r ≡ asked_in head → r.until ≤ 4294967280
+near head {r} a =
+    let w =
+    asked_ok (is_whole (registers_in head)) (leb (until_in head) 4294967280) (is_edition (edition_in head)) (request_of head) r a in
+    rw w.2 (leb-true _ _ (second (is_whole (registers_in head)) _ w.0))
 
 -- ---- the refusal
 
@@ -95,21 +106,21 @@ module _ (p : Packet) where
   pub accepted : {r : Request} {left : Packet} → (refusal_of p ≡ Ok tt) × (r ≡ request_of p.head) → left ≡ played_on r p
       → answer (Ok tt) left ≡ played_of p
   unfolding played_of
-  accepted z l = rw (z.0, ← z.1) (ap (λ (q : Packet). answer (Ok tt) q) l)
+  accepted z l = rw z.0 (ap (λ (q : Packet). answer (Ok tt) q) (l ∙ ap (λ (r : Request). played_on r p) z.1))
 
 module _ (p q : Packet) where
   pub first_refused : {e : Refusal} → refusal_of p ≡ Err e → answers (Err e) p q ≡ played_beside p q
   unfolding played_beside
   first_refused z = rw z
 
-  pub second_refused : {asked : Request} {e : Refusal} → refusal_of q ≡ Err e → answers (Err e) p q ≡ played_second asked p q
-  second_refused z = rw z
+  pub second_refused : (asked : Request) {e : Refusal} → refusal_of q ≡ Err e → answers (Err e) p q ≡ played_second asked p q
+  second_refused asked z = rw z
 
-  pub second_accepted : {asked : Request} {first second : Packet} → refusal_of q ≡ Ok tt
+  pub second_accepted : (asked : Request) {first second : Packet} → refusal_of q ≡ Ok tt
       → two first second ≡ played_both_on asked p q → answers (Ok tt) first second ≡ played_second asked p q
-  second_accepted z l = rw z (ap (λ (t : Two). answers (Ok tt) t.first t.second) l)
+  second_accepted asked z l = rw z (ap (λ (t : Two). answers (Ok tt) t.first t.second) l)
 
   pub first_accepted : {r : Request} {a : Answers} → (refusal_of p ≡ Ok tt) × (r ≡ request_of p.head) → a ≡ played_second r p q
       → a ≡ played_beside p q
   unfolding played_beside
-  first_accepted z l = l ∙ rw (z.0, z.1)
+  first_accepted {r} z l = l ∙ ap (λ (r : Request). played_second r p q) z.1 ∙ rw z.0

@@ -37,7 +37,7 @@ use Rattle.host.specs.Theorems.{Outside}
 use Rattle.host.specs.Exact as exact
 use Rattle.host.specs.Exact.{accesses, unmarked_same}
 use Rattle.host.specs.declared.Player.{Player}
-use Rattle.player.specs.Head.{edition_in, budget_in, until_in, begins_in, registers_in, devices_in, devices_of, devices_bytes, head_of, request_of, timer_at}
+use Rattle.player.specs.Head.{edition_in, budget_in, until_in, begins_in, registers_in, devices_in, devices_of, devices_bytes, head_of, timer_at}
 use Rattle.player.specs.Packet.{Packet, refusal_of, Start, start, start_of, begun_of, made_of, finished, played_of}
 use Rattle.player.specs.Accepted.{Accepted, accepts, accepted}
 use Rattle.player.specs.Promises.{played_to}

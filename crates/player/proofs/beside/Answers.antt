@@ -1,9 +1,8 @@
 -- Nothing is stored before all tests are passed.
 -- Assumes nothing.
-use Rattle.std.proofs.Common.{◌∙◌, rules}
+use Rattle.std.proofs.Common.{◌∙◌}
 use Rattle.std.proofs.lemmas.Result.{err_from_is_err_and}
-use Rattle.player.specs.Promises.{packet_of}
-use Rattle.player.proofs.Refused.{no_head, no_chip, no_memory, no_reads, no_writes, no_fetched, no_made, not_asked, taken, first_refused, first_accepted}
+use Rattle.player.proofs.Refused.{near, no_head, no_chip, no_memory, no_reads, no_writes, no_fetched, no_made, not_asked, taken, first_refused, first_accepted}
 use Rattle.player.proofs.beside.Goals as goal
 
 pub returns-in_default : goal.returns-in_default
@@ -67,6 +66,10 @@ returns-in_err-asked c =
     let chip = c.in-Some-as_mut_array.ensures.cases in
     let p = err_from_is_err_and c.from_residual.result c.from_residual.ensures.1 in
     rw (p.1, p.2, head.same, chip.same) (first_refused _ _ (not_asked _ head.long chip.long (rw head.same at c.in_err-asked.ensures)))
+
+pub play_second-requires : goal.play_second-requires
+play_second-requires c =
+    let head = c.in-Some.ensures.cases in near c.args.head.now (rw head.same at c.in_ok-asked.ensures)
 
 pub returns : goal.returns
 returns c =

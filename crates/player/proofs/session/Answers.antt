@@ -1,9 +1,8 @@
 -- Nothing is stored before all tests are passed.
 -- Assumes nothing.
-use Rattle.std.proofs.Common.{◌∙◌, rules}
+use Rattle.std.proofs.Common.{◌∙◌}
 use Rattle.std.proofs.lemmas.Result.{err_from_is_err_and}
-use Rattle.player.specs.Promises.{packet_of}
-use Rattle.player.proofs.Refused.{no_head, no_chip, no_memory, no_reads, no_writes, no_fetched, no_made, not_asked, taken, refused, accepted}
+use Rattle.player.proofs.Refused.{near, no_head, no_chip, no_memory, no_reads, no_writes, no_fetched, no_made, not_asked, taken, refused, accepted}
 use Rattle.player.proofs.session.Goals as goal
 
 pub returns-in_default : goal.returns-in_default
@@ -68,6 +67,10 @@ returns-in_err-asked c =
     let p = err_from_is_err_and c.from_residual.result c.from_residual.ensures.1 in
     rw (p.1, p.2, head.same, chip.same) (refused _ (not_asked _ head.long chip.long (rw head.same at c.in_err-asked.ensures)))
 
+pub play_on-requires : goal.play_on-requires
+play_on-requires c =
+    let head = c.in-Some.ensures.cases in near c.args.head.now (rw head.same at c.in_ok-asked.ensures)
+
 pub returns : goal.returns
 returns c =
     let head = c.in-Some.ensures.cases in
@@ -78,4 +81,4 @@ returns c =
     let fetched = c.in-Some-as_mut_array-5.ensures.cases in
     let made = c.in-Some-as_mut_array-6.ensures.cases in
     accepted _ (taken _ head.long chip.long (rw head.same at c.in_ok-asked.ensures) memory.long reads.long writes.long fetched.long made.long)
-    (c.play_on.ensures ∙ rw (head.same, chip.same, memory.same, reads.same, writes.same, fetched.same, made.same))
+    (c.play_on.ensures ∙ rw (head.same, chip.same, memory.same, reads.same, writes.same, fetched.same))
