@@ -1,12 +1,30 @@
 -- A playing's devices stay three timers and four ports, whatever its steps do.
 -- Assumes nothing.
-use Rattle.std.specs.Prelude.{ℕ, zero, suc, ◌+◌, Bool, true, false, cond, ◌||◌, List}
+use Rattle.std.specs.Prelude.{ℕ, zero, suc, ◌+◌, Bool, true, false, cond, ◌||◌, List, ◌≡◌, refl, [], ◌∷◌, length, get_or}
+use Rattle.std.proofs.Common.{arith}
 use Rattle.editions.specs.declared.Edition.{Edition}
 use Rattle.devices.specs.Devices.{after_reads, after_stores}
 use Rattle.devices.specs.declared.Devices.{Devices}
 use Rattle.devices.specs.Lengths.{Full, after_reads_full, after_stores_full, passed_full}
 use Rattle.host.specs.Turn.{Playing, noted, turn_of}
 use Rattle.host.specs.Play.{goes_on, progress, play_of}
+
+-- A list of three, or of four, is what stands at its places.
+pub three_at : {A : Type 0} (x : A) (xs : List A) → length xs ≡ 3 → get_or xs 0 x ∷ get_or xs 1 x ∷ get_or xs 2 x ∷ [] ≡ xs
+three_at x (a ∷ b ∷ c ∷ []) h = refl
+three_at x [] h = absurd (omega arith)
+three_at x (a ∷ []) h = absurd (omega arith)
+three_at x (a ∷ b ∷ []) h = absurd (omega arith)
+three_at x (a ∷ b ∷ c ∷ d ∷ xs) h = absurd (omega arith)
+
+pub four_at : {A : Type 0} (x : A) (xs : List A) → length xs ≡ 4
+    → get_or xs 0 x ∷ get_or xs 1 x ∷ get_or xs 2 x ∷ get_or xs 3 x ∷ [] ≡ xs
+four_at x (a ∷ b ∷ c ∷ d ∷ []) h = refl
+four_at x [] h = absurd (omega arith)
+four_at x (a ∷ []) h = absurd (omega arith)
+four_at x (a ∷ b ∷ []) h = absurd (omega arith)
+four_at x (a ∷ b ∷ c ∷ []) h = absurd (omega arith)
+four_at x (a ∷ b ∷ c ∷ d ∷ e ∷ xs) h = absurd (omega arith)
 
 noted_full : (read stored : ℕ) (memory : List ℕ) (rom : Bool) (cost : ℕ) (d : Devices) → Full d → Full (noted read stored memory rom cost d)
 unfolding noted

@@ -6,16 +6,9 @@ use Rattle.std.proofs.lemmas.List.{length-map}
 use Rattle.std.proofs.lemmas.List.Edits.{sets}
 use Rattle.devices.specs.Timers.{timer}
 use Rattle.host.specs.Turn.{counts, laid_out}
+use Rattle.host.specs.Full.{four_at}
 use Rattle.host.proofs.Laying.{begun, one_laid, all_laid}
 use Rattle.host.proofs.lay_out.Goals as goal
-
-four : (xs : List ℕ) → length xs ≡ 4 → get_or xs 0 0 ∷ get_or xs 1 0 ∷ get_or xs 2 0 ∷ get_or xs 3 0 ∷ [] ≡ xs
-four (a ∷ b ∷ c ∷ d ∷ []) h = refl
-four [] h = absurd (omega arith)
-four (a ∷ []) h = absurd (omega arith)
-four (a ∷ b ∷ []) h = absurd (omega arith)
-four (a ∷ b ∷ c ∷ []) h = absurd (omega arith)
-four (a ∷ b ∷ c ∷ d ∷ e ∷ xs) h = absurd (omega arith)
 
 pub loop-k-init : goal.loop-k-init
 loop-k-init c = begun _ _ _
@@ -31,4 +24,4 @@ returns c =
     let d = c.args.devices in
     let named = get_or c.args.chip.now (get_or c.args.memory.now 0xF2 0 % 128) 0 in
     all_laid _ _ _ c.loop-k.invariant (simp length-map (omega arith))
-    ∙ ap (λ (ports : List ℕ). sets (sets c.args.memory.now 0xF3 (named ∷ ports)) 0xFD (counts d)) (four d.ports (omega arith))
+    ∙ ap (λ (ports : List ℕ). sets (sets c.args.memory.now 0xF3 (named ∷ ports)) 0xFD (counts d)) (four_at 0 d.ports (omega arith))

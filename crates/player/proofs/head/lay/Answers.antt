@@ -71,9 +71,5 @@ slice_bounds-set_number-end c = search (rules, number_room)
 pub slice_bounds-set_devices-end : goal.slice_bounds-set_devices-end
 slice_bounds-set_devices-end c = search (rules, devices_room)
 
-pub shape_of-head : goal.shape_of-head
-shape_of-head c = still c.args.head.now c.requires c.args.player c.set_whole.ensures c.args.steps
-    c.set_number.ensures c.set_devices.ensures
-
 pub returns : goal.returns
 returns c = search (rules, all_laid)
