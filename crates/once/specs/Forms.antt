@@ -103,13 +103,13 @@ plays_both p q =
 abbrev seven : Packet → List (List ℕ)
 seven p = p.head ∷ p.chip ∷ p.world.memory ∷ p.world.reads ∷ p.world.writes ∷ p.fetched ∷ p.made ∷ []
 
-pub answered : {x y : ℕ} {p q : Packet} {a : packet.Answer} → packet.answer x p ≡ a → packet.answer y q ≡ a
+pub answered : {x y : Result Unit Refusal} {p q : Packet} {a : packet.Answer} → packet.answer x p ≡ a → packet.answer y q ≡ a
     → (x ≡ y) × (seven p ≡ seven q)
 answered p q =
-    let same = p ∙ sym q in (ap (λ (a : packet.Answer). a.refusal) same, ap (λ (a : packet.Answer). seven a.left) same)
+    let same = p ∙ sym q in (ap (λ (a : packet.Answer). a.result) same, ap (λ (a : packet.Answer). seven a.left) same)
 
-pub answered_both : {x y : ℕ} {p q p₂ q₂ : Packet} {a : packet.Answers} → packet.answers x p p₂ ≡ a → packet.answers y q q₂ ≡ a
+pub answered_both : {x y : Result Unit Refusal} {p q p₂ q₂ : Packet} {a : packet.Answers} → packet.answers x p p₂ ≡ a → packet.answers y q q₂ ≡ a
     → (x ≡ y) × ((seven p ++ seven p₂) ≡ (seven q ++ seven q₂))
 answered_both p q =
     let same = p ∙ sym q in
-    (ap (λ (a : packet.Answers). a.refusal) same, ap (λ (a : packet.Answers). seven a.first ++ seven a.second) same)
+    (ap (λ (a : packet.Answers). a.result) same, ap (λ (a : packet.Answers). seven a.first ++ seven a.second) same)
