@@ -1,15 +1,16 @@
 -- What a program knows that blanks images by these calls: the run of a blanked image answers and leaves the same, nothing is left of what
 -- stood at unmarked addresses, and the number tells how many these are.
 -- Assumes nothing.
-use Rattle.std.specs.Prelude.{ℕ, ◌/◌, ◌%◌, ◌^◌, ◌<◌, Bool, true, false, not, ◌≡◌, refl, List, length}
-use Rattle.std.proofs.Common.{ap, arith, eq-eqb, ne_eqb}
-use Rattle.std.proofs.Math.Decide.{ℕ_discrete}
+use Rattle.std.specs.Prelude.{ℕ, ◌/◌, ◌%◌, ◌^◌, ◌<◌, not, ◌≡◌, refl, List, length, None, Some, Result, Ok, Err}
+use Rattle.std.proofs.Common.{ap, sym, ◌∙◌, arith}
+use Rattle.refusals.specs.declared.Refusal.{Refusal}
 use Rattle.marks.specs.Maps.{is_marked}
 use Rattle.marks.specs.HowMany.{at_most}
 use Rattle.memory.specs.World.{World, world}
 use Rattle.memory.specs.Access.{Outcome}
 use Rattle.memory.specs.Theorems.{Keeps}
-use Rattle.state.specs.Registers.{whole_bytes_of, is_whole, whole_of}
+use Rattle.processor.specs.declared.Processor.{Processor}
+use Rattle.state.specs.Registers.{whole_bytes_of, whole_in}
 use Rattle.runs.specs.Same.{Same}
 use Rattle.runs.proofs.Agree.{same_through}
 use Rattle.engine.specs.Entry.{refusal_of}
@@ -18,7 +19,7 @@ use Rattle.engine.specs.declared.Ran.{Ran}
 use Rattle.blanking.specs.Calls.{unmarked}
 use Rattle.blanking.specs.Theorems.{AgreeAt, twice, not_refused, nothing_left}
 use Rattle.blanking.specs.Answers.{answer_to, both_refused, same_answer}
-use Rattle.exports.specs.Calls.{packed, numbered_by, blanked_number, Called, handed_back, run_call, blank_call}
+use Rattle.exports.specs.Calls.{refused_with, ran_number, numbered_by, blanked_number, Called, handed_back, run_call, blank_call}
 use Rattle.exports.specs.Parts.{refusal_part, number_part}
 
 -- ---- the run on a blanked image
@@ -36,34 +37,37 @@ outcome_of c = record { result = record { number = c.answer; registers = c.regis
 abbrev pub played_call : ℕ → ℕ → List ℕ → List ℕ → Called
 played_call edition budget registers image = run_call edition budget registers (world image clear clear)
 
--- What is handed back of an engine's answer on an image with clear maps; of an accepted one, what it answered itself.
-abbrev handed : List ℕ → List ℕ → Outcome World Ran → Outcome World Answer
+-- What is handed back of an engine's answer on an image with clear maps, and of that answer alone.
+abbrev handed : List ℕ → List ℕ → Outcome World (Result Ran Refusal) → Outcome World Answer
 handed registers image o = outcome_of (handed_back registers (world image clear clear) o)
 
-abbrev accepted : Ran → Answer
-accepted r = record { number = packed 0 r.stop r.steps; registers = whole_bytes_of r.cpu }
+abbrev answer_of : List ℕ → Result Ran Refusal → Answer
+answer_of registers (Ok ran) = record { number = ran_number ran; registers = whole_bytes_of ran.cpu }
+answer_of registers (Err refusal) = record { number = refused_with refusal; registers = registers }
 
 -- What the engine answered alike, refused or not, is handed back alike.
-handed_alike : (registers image second : List ℕ) (o q : Outcome World Ran) → Same image second o q
+handed_alike : (registers image second : List ℕ) (o q : Outcome World (Result Ran Refusal)) → Same image second o q
     → Same image second (handed registers image o) (handed registers second q)
-handed_alike registers image second o q s = go (ℕ_discrete o.result.refusal 0)
+handed_alike registers image second o q s = go o.result refl
   where
-    go : Dec (o.result.refusal ≡ 0) → Same image second (handed registers image o) (handed registers second q)
-    go (yes z) =
-        let other : q.result.refusal ≡ 0 = rw (← s.result) z in
-        rw (eq-eqb _ _ z, eq-eqb _ _ other) (same_through accepted s)
-    go (no n) = rw (← s.result, ne_eqb _ _ n) (both_refused image second _)
+    go : (r : Result Ran Refusal) → o.result ≡ r → Same image second (handed registers image o) (handed registers second q)
+    go (Ok ran) z =
+        let other : q.result ≡ Ok ran = sym s.result ∙ z in
+        rw (z, other) (rw (z, other) at (same_through (answer_of registers) s))
+    go (Err refusal) z = rw (← s.result, z) (both_refused image second _)
 
 -- Whatever the numbers are, and whatever is lent.
 module _ (edition budget : ℕ) (registers image map : List ℕ) (byte : ℕ) where
   -- the engine's own maps are handed back, refused or not
-  its_marks : Keeps (handed registers image (answer_to edition budget (whole_of registers) image)).left.reads map
-      → Keeps (answer_to edition budget (whole_of registers) image).left.reads map
-  its_marks more =
-      elim (ℕ_discrete (refusal_of edition (world image clear clear)) 0) [
-        | yes z ↦ rw (eq-eqb _ _ z) (rw (eq-eqb _ _ z) at more)
-        | no n ↦ rw (ne_eqb _ _ n) (rw (ne_eqb _ _ n, ne_eqb _ _ n) at more)
+  its_marks : (cpu : Processor) → Keeps (handed registers image (answer_to edition budget cpu image)).left.reads map
+      → Keeps (answer_to edition budget cpu image).left.reads map
+  its_marks cpu more =
+      elim (refusal_of edition (world image clear clear)) as
+      (λ r. refusal_of edition (world image clear clear) ≡ r → Keeps (answer_to edition budget cpu image).left.reads map) [
+        | None ↦ λ z. rw z (rw z at more)
+        | Some refusal ↦ λ z. rw z (rw z at more)
       ]
+      refl
 
   -- Let an image be run from clear maps, and then blanked, as it was before the run, by a map that has at least the marks of the read map
   -- that the run left. Another such run of the blanked image answers the same number, and leaves the same registers, maps and bytes
@@ -72,17 +76,17 @@ module _ (edition budget : ℕ) (registers image map : List ℕ) (byte : ℕ) wh
       → Same image (blank_call map byte image).left
       (outcome_of (played_call edition budget registers image))
       (outcome_of (played_call edition budget registers (blank_call map byte image).left))
-  same_run_called more = go (is_whole registers) refl
+  same_run_called more = go (whole_in registers) refl
     where
-      go : (b : Bool) → is_whole registers ≡ b
+      go : (w : Result Processor Refusal) → whole_in registers ≡ w
           → Same image (blank_call map byte image).left
           (outcome_of (played_call edition budget registers image))
           (outcome_of (played_call edition budget registers (blank_call map byte image).left))
-      go false other = rw other (both_refused image (blank_call map byte image).left _)
-      go true whole =
+      go (Err refusal) other = rw other (both_refused image (blank_call map byte image).left _)
+      go (Ok cpu) whole =
           rw whole
           (handed_alike registers image (blank_call map byte image).left _ _
-          (same_answer edition budget (whole_of registers) image map byte (its_marks (rw whole at more))))
+          (same_answer edition budget cpu image map byte (its_marks cpu (rw whole at more))))
 
 -- ---- what the call answers and leaves
 

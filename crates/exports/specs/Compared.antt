@@ -1,26 +1,27 @@
 -- What a comparison tells a program that calls it: where refusal and stop are 0, the second image gives the first one's run.
 -- Assumes nothing.
-use Rattle.std.specs.Prelude.{ℕ, ◌/◌, ◌%◌, ◌^◌, ◌<◌, ◌≤◌, Bool, true, false, cond, ◌≡◌, refl, List}
-use Rattle.std.proofs.Common.{sym, ◌∙◌, arith, eq-eqb, ne_eqb}
-use Rattle.std.proofs.Math.Decide.{ℕ_discrete}
+use Rattle.std.specs.Prelude.{ℕ, ◌/◌, ◌%◌, ◌^◌, ◌<◌, ◌≤◌, Bool, true, false, cond, ◌≡◌, refl, List, Some, Result, Ok, Err}
+use Rattle.std.proofs.Common.{sym, ◌∙◌, arith, ne_eqb}
+use Rattle.refusals.specs.Numbers.{number_of}
+use Rattle.refusals.specs.declared.Refusal.{Refusal}
 use Rattle.editions.specs.declared.Edition.{Edition}
 use Rattle.processor.specs.declared.Processor.{Processor}
 use Rattle.runs.specs.Same.{Same}
 use Rattle.engine.specs.Provenance.{played, read_map}
-use Rattle.differences.specs.Calls.{refusal_of, differences_of}
+use Rattle.differences.specs.Calls.{stretches_of, marks_of, accepted, differences_of}
+use Rattle.differences.specs.declared.Differences.{Differences}
+use Rattle.differences.proofs.Refusals.{nothing_refused}
 use Rattle.differences.proofs.Theorems.{few}
 use Rattle.differences.proofs.SameRun.{same_run_compared}
 use Rattle.exports.specs.Calls.{differences_number, differences_call}
-use Rattle.exports.specs.Parts.{refusal_part, stop_part}
+use Rattle.exports.specs.Parts.{refusal_part, stop_part, not_zero}
 
 -- There are never more stretches than the number has room for.
-few_told : (first second : List ℕ) (has-map : Bool) (map row : List ℕ)
-    → (differences_of first second has-map map row).answer.stretches ≤ 32768
-few_told first second has-map map row =
-    elim (ℕ_discrete (refusal_of first second has-map map row) 0) [
-      | yes z ↦ rw (eq-eqb _ _ z) (few first second)
-      | no n ↦ rw (ne_eqb _ _ n) (omega arith)
-    ]
+few_told : (first second map row : List ℕ) {d : Differences} → (differences_of first second (Some map) row).answer ≡ Ok d → d.stretches ≤ 32768
+few_told first second map row {d} is =
+    let z = nothing_refused first second (Some map) row is in
+    let as_told : d ≡ accepted (stretches_of first second) (marks_of (Some map)) = cc (rw z at is) in
+    rw as_told (few first second)
 
 a_byte : (b : Bool) → cond b 1 0 < 2 ^ 8
 a_byte true = omega arith
@@ -31,6 +32,9 @@ no_touch true e = absurd (omega arith)
 no_touch false e = refl
 
 module _ (edition : Edition) (budget : ℕ) (cpu : Processor) (image second row : List ℕ) (has-map : ℕ) where
+  abbrev map : List ℕ
+  map = read_map edition budget cpu image
+
   -- Two images compared, with the read map that a run of the first, from clear maps, leaves.
   abbrev pub number : ℕ
   number = (differences_call image second has-map (read_map edition budget cpu image) row).answer
@@ -38,14 +42,15 @@ module _ (edition : Edition) (budget : ℕ) (cpu : Processor) (image second row 
   -- With a sign other than 0, and refusal and stop as include/spc700.h takes them out of the number.
   pub same_run_told : (has-map ≡ 0 → ⊥) → number / 2 ^ 40 ≡ 0 → number / 2 ^ 32 % 2 ^ 8 ≡ 0
       → Same image second (played edition budget cpu image) (played edition budget cpu second)
-  same_run_told given no-refusal no_stop =
-      let map = read_map edition budget cpu image in
-      let d = (differences_of image second true map row).answer in
-      let number_is : number ≡ differences_number d = rw (ne_eqb _ _ given) in
-      let word : d.stretches < 2 ^ 32 = omega (arith, few_told image second true map row) in
-      let byte = a_byte d.touched in
-      let refusal = refusal_part d.refusal (cond d.touched 1 0) d.stretches byte word in
-      let stop = stop_part d.refusal (cond d.touched 1 0) d.stretches byte word in
-      same_run_compared edition budget cpu image second row
-      (sym refusal ∙ rw number_is at no-refusal)
-      (no_touch d.touched (sym stop ∙ rw number_is at no_stop))
+  same_run_told given no-refusal no_stop = go (differences_of image second (Some map) row).answer refl
+    where
+      go : (r : Result Differences Refusal) → (differences_of image second (Some map) row).answer ≡ r
+          → Same image second (played edition budget cpu image) (played edition budget cpu second)
+      go (Err refusal) is =
+          let number_is : number ≡ differences_number (Err refusal) = rw (ne_eqb _ _ given, is) in
+          absurd (not_zero refusal (sym (refusal_part (number_of refusal) 0 0 (omega arith) (omega arith)) ∙ rw number_is at no-refusal))
+      go (Ok d) is =
+          let number_is : number ≡ differences_number (Ok d) = rw (ne_eqb _ _ given, is) in
+          let word : d.stretches < 2 ^ 32 = omega (arith, few_told image second map row is) in
+          let stop = stop_part 0 (cond d.touched 1 0) d.stretches (a_byte d.touched) word in
+          same_run_compared edition budget cpu image second row is (no_touch d.touched (sym stop ∙ rw number_is at no_stop))

@@ -1,80 +1,87 @@
 -- Reading and writing SPC files through the calls, and making them of state records and back, one after the other.
 -- The hypotheses are what the code's types give, that the lent slices hold bytes, and where it is said, that a call was not refused.
 -- Assumes nothing.
-use Rattle.std.specs.Prelude.{ℕ, ◌≡◌, refl, Bool, true, false, List, length}
-use Rattle.std.proofs.Common.{ap, ◌∙◌, arith, eq-eqb, ne_eqb}
+use Rattle.std.specs.Prelude.{ℕ, ◌≡◌, refl, List, length, Result, Ok, Err}
+use Rattle.std.specs.Result.{result_unwrap_or}
+use Rattle.std.proofs.Common.{ap, sym, ◌∙◌, eq-eqb, ne_eqb}
 use Rattle.std.proofs.Math.Decide.{ℕ_discrete}
 use Rattle.laws.specs.Bytes.{Bytes}
 use Rattle.laws.specs.Filled.{Filled, filled}
+use Rattle.refusals.specs.declared.Refusal.{Refusal}
+use Rattle.refusals.specs.declared.Refusal.TheVariants.{Form}
 use Rattle.processor.specs.declared.Processor.{Processor}
-use Rattle.state.specs.Registers.{whole_bytes_of, is_whole, whole_of}
-use Rattle.state.specs.Theorems.{record_to_whole_and_back, bytes_whole, whole_to_record_and_back}
-use Rattle.spc_file.specs.Calls.{refusal_of, file_read, read_of, memory_of, write_of}
+use Rattle.state.specs.Registers.{whole_bytes_of, is_whole, whole_of, whole_in}
+use Rattle.state.specs.Theorems.{found_again, whole_to_record_and_back}
+use Rattle.spc_file.specs.Calls.{read_of, memory_of, write_of}
 use Rattle.spc_file.specs.Theorems as spc
 use Rattle.conversion.specs.Calls.{file_from_record, record_from_file}
 use Rattle.conversion.proofs.BothWays as conversion
-use Rattle.exports.specs.Calls.{packed, numbered, file_read_call, file_write_call, file_from_record_call, record_from_file_call}
+use Rattle.engine.proofs.Refused.{when_ok}
+use Rattle.exports.specs.Calls.{refused_with, numbered, file_read_call, file_write_call, file_from_record_call, record_from_file_call}
+use Rattle.exports.specs.Parts.{refused_tells, none_refused}
 
 -- ---- the calls, past the test of the registers
 
 module _ (file registers : List ℕ) where
-  read_refused : length registers ≡ 8 → (refusal_of file ≡ 0 → ⊥) → file_read_call file registers ≡ filled (packed (refusal_of file) 0 0) registers
-  read_refused eight n = rw (eq-eqb _ _ eight, ne_eqb _ _ n, ne_eqb _ _ n)
+  read_refused : length registers ≡ 8 → {refusal : Refusal} → read_of file ≡ Err refusal
+      → file_read_call file registers ≡ filled (refused_with refusal) registers
+  read_refused eight e = rw (eq-eqb _ _ eight, e)
 
-  read_accepted : length registers ≡ 8 → {cpu : Processor} → read_of file ≡ file_read 0 cpu
+  read_accepted : length registers ≡ 8 → {cpu : Processor} → read_of file ≡ Ok cpu
       → file_read_call file registers ≡ filled 0 (whole_bytes_of cpu)
   read_accepted eight e = rw (eq-eqb _ _ eight, e)
 
-  wrote : is_whole registers ≡ true → (memory : List ℕ) {o : Filled ℕ} → write_of (whole_of registers) memory file ≡ o
-      → file_write_call registers memory file ≡ filled (packed o.answer 0 0) o.left
+  wrote : {cpu : Processor} → whole_in registers ≡ Ok cpu → (memory : List ℕ) {o : Filled (Result Unit Refusal)}
+      → write_of cpu memory file ≡ o → file_write_call registers memory file ≡ numbered o
   wrote whole memory e = rw (whole, e)
-
--- An answer of 0 is the refusal 0.
-none_refused : (refusal : ℕ) → packed refusal 0 0 ≡ 0 → refusal ≡ 0
-none_refused refusal e = omega arith
 
 -- ---- both ways round
 
--- The record, once it went through the eight bytes, is written as it was read.
-written_again : (file : List ℕ) → Bytes file → refusal_of file ≡ 0
-    → write_of (whole_of (whole_bytes_of (read_of file).cpu)) (memory_of file) file ≡ filled 0 file
-written_again file bytes z =
-    rw (record_to_whole_and_back (read_of file).cpu) (spc.read_then_write file bytes ∙ ap (λ (n : ℕ). filled n file) z)
+-- The record that a file gives is written as it was read.
+written_again : (file : List ℕ) → Bytes file → {cpu : Processor} → read_of file ≡ Ok cpu → write_of cpu (memory_of file) file ≡ filled (Ok tt) file
+written_again file bytes {cpu} z =
+    ap (λ (r : Result Processor Refusal). write_of (result_unwrap_or r cpu) (memory_of file) file) (sym z)
+    ∙ spc.read_then_write file bytes cpu
+    ∙ ap (λ (r : Result Unit Refusal). filled r file) (spc.given file z).0
 
 -- a call that is refused, and leaves what it was lent as it was
 pub record Refused (o : Filled ℕ) (lent : List ℕ) : Type 0 where
   pub refused : o.answer ≡ 0 → ⊥
   pub stays : o.left ≡ lent
 
+refused_so : (refusal : Refusal) (lent : List ℕ) → Refused (filled (refused_with refusal) lent) lent
+refused_so refusal lent = record { refused = refused_tells refusal; stays = refl }
+
 module _ (file registers : List ℕ) where
   -- Reading a file, and then writing into it the registers' bytes as they are by then and the memory that the file has, is accepted where
   -- the read is, and changes nothing,
   pub read_then_write : Bytes file → (file_read_call file registers).answer ≡ 0
       → file_write_call (file_read_call file registers).left (memory_of file) file ≡ filled 0 file
-  read_then_write bytes e = go (ℕ_discrete (length registers) 8) (ℕ_discrete (refusal_of file) 0)
+  read_then_write bytes e = go (ℕ_discrete (length registers) 8) (read_of file) refl
     where
-      go : Dec (length registers ≡ 8) → Dec (refusal_of file ≡ 0)
+      go : Dec (length registers ≡ 8) → (r : Result Processor Refusal) → read_of file ≡ r
           → file_write_call (file_read_call file registers).left (memory_of file) file ≡ filled 0 file
-      go (no n) d = absurd (omega (arith, rw (ne_eqb _ _ n) at e))
-      go (yes s) (no n) = absurd (n (none_refused (refusal_of file) (rw (read_refused file registers s n) at e)))
-      go (yes s) (yes z) =
-          let cpu = (read_of file).cpu in
-          let is : read_of file ≡ file_read 0 cpu = rw (eq-eqb _ _ z) in
-          rw (read_accepted file registers s is) (wrote file (whole_bytes_of cpu) (bytes_whole cpu) (memory_of file) (written_again file bytes z))
+      go (no n) r z = absurd (refused_tells Form (rw (ne_eqb _ _ n) at e))
+      go (yes s) (Err refusal) z = absurd (refused_tells refusal (rw (read_refused file registers s z) at e))
+      go (yes s) (Ok cpu) z =
+          rw (read_accepted file registers s z) (wrote file (whole_bytes_of cpu) (found_again cpu) (memory_of file) (written_again file bytes z))
 
   -- and no more does a write behind a read that was refused: it is refused, too, though it may be with another number.
   pub refused_both_times : ((file_read_call file registers).answer ≡ 0 → ⊥)
       → Refused (file_write_call (file_read_call file registers).left (memory_of file) file) file
-  refused_both_times refused = go (ℕ_discrete (length registers) 8) (ℕ_discrete (refusal_of file) 0) (is_whole registers) refl
+  refused_both_times refused = go (ℕ_discrete (length registers) 8) (read_of file) refl (whole_in registers) refl
     where
-      go : Dec (length registers ≡ 8) → Dec (refusal_of file ≡ 0) → (b : Bool) → is_whole registers ≡ b
+      go : Dec (length registers ≡ 8) → (r : Result Processor Refusal) → read_of file ≡ r → (w : Result Processor Refusal) → whole_in registers ≡ w
           → Refused (file_write_call (file_read_call file registers).left (memory_of file) file) file
-      go (no n) d b w = rw (ne_eqb _ _ n, ne_eqb _ _ n) (record { refused = λ e. omega arith; stays = refl })
-      go (yes s) (yes z) b w = absurd (refused (rw (eq-eqb _ _ s, eq-eqb _ _ z)))
-      go (yes s) (no n) true w =
-          rw (read_refused file registers s n, wrote file registers w (memory_of file) (spc.refused_file (whole_of registers) (memory_of file) file n))
-          (record { refused = λ e. n (none_refused (refusal_of file) e); stays = refl })
-      go (yes s) (no n) false w = rw (read_refused file registers s n, w) (record { refused = λ e. omega arith; stays = refl })
+      go (no n) r z w x = rw (ne_eqb _ _ n, ne_eqb _ _ n) (refused_so Form file)
+      go (yes s) (Ok cpu) z w x = absurd (refused (rw (read_accepted file registers s z) refl))
+      go (yes s) (Err refusal) z (Ok cpu) x =
+          rw (
+            read_refused file registers s z,
+            wrote file registers x (memory_of file) (spc.refused_file cpu (memory_of file) file (spc.not_given file z)),
+          )
+          (refused_so refusal file)
+      go (yes s) (Err refusal) z (Err other) x = rw (read_refused file registers s z, x) (refused_so other file)
 
 -- what the calls give back of a file
 pub record GivesBack (registers memory file : List ℕ) : Type 0 where
@@ -84,16 +91,15 @@ pub record GivesBack (registers memory file : List ℕ) : Type 0 where
 -- Writing and then reading gives back what was written.
 pub write_then_read : (registers memory file : List ℕ) → Bytes registers → (file_write_call registers memory file).answer ≡ 0
     → GivesBack registers memory (file_write_call registers memory file).left
-write_then_read registers memory file bytes e = go (is_whole registers) refl
+write_then_read registers memory file bytes e = go (whole_in registers) refl
   where
-    go : (b : Bool) → is_whole registers ≡ b → GivesBack registers memory (file_write_call registers memory file).left
-    go false w = absurd (omega (arith, rw w at e))
-    go true w =
-        let back = spc.write_then_read (whole_of registers) memory file (none_refused _ (rw w at e)) in
-        rw w (record {
-          read = λ into eight. rw (read_accepted _ into eight back.read, whole_to_record_and_back registers bytes w);
-          part = back.part;
-        })
+    go : (w : Result Processor Refusal) → whole_in registers ≡ w → GivesBack registers memory (file_write_call registers memory file).left
+    go (Err refusal) x = absurd (refused_tells refusal (rw x at e))
+    go (Ok cpu) x =
+        let back = spc.write_then_read cpu memory file (none_refused _ (rw x at e)) in
+        let own = when_ok (is_whole registers) (whole_of registers) cpu Form (sym x) in
+        let again : whole_bytes_of cpu ≡ registers = rw own.1 (whole_to_record_and_back registers bytes own.0) in
+        rw x (record { read = λ into eight. rw (read_accepted _ into eight back.read, again); part = back.part })
 
 -- ---- state records and files
 
