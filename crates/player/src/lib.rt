@@ -110,13 +110,7 @@ fn play_on(
         chip,
         fetched,
     };
-    let played = host::play(
-        player,
-        asked.edition,
-        asked.until,
-        asked.budget,
-        &mut song,
-    );
+    let played = host::play(player, asked.edition, asked.until, asked.budget, &mut song);
     end(
         played.player,
         played.steps,
@@ -217,11 +211,16 @@ fn play_both_on(
     );
     let steps = both.steps;
     let alike = both.alike;
+    end_told(both.first, steps, alike, head, reads, writes, fetched, made);
     end_told(
-        both.first, steps, alike, head, reads, writes, fetched, made,
-    );
-    end_told(
-        both.second, steps, alike, head2, reads2, writes2, fetched2, made2,
+        both.second,
+        steps,
+        alike,
+        head2,
+        reads2,
+        writes2,
+        fetched2,
+        made2,
     );
 }
 
@@ -270,7 +269,8 @@ fn play_second(
         return Err(Refusal::Map);
     };
     play_both_on(
-        asked, head, chip, memory, reads, writes, fetched, made, head2, chip2, memory2, reads2, writes2, fetched2, made2,
+        asked, head, chip, memory, reads, writes, fetched, made, head2, chip2, memory2, reads2,
+        writes2, fetched2, made2,
     );
     Ok(())
 }
@@ -319,6 +319,7 @@ pub fn beside(
         return Err(Refusal::Map);
     };
     play_second(
-        asked, head, chip, memory, reads, writes, fetched, made, head2, chip2, memory2, reads2, writes2, fetched2, made2,
+        asked, head, chip, memory, reads, writes, fetched, made, head2, chip2, memory2, reads2,
+        writes2, fetched2, made2,
     )
 }
