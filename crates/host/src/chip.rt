@@ -43,8 +43,8 @@ fn store(memory: &Memory, writes: &Map, chip: &mut [u8; 512], fetched: &mut Map)
     }
 }
 
-// What a step has read and stored, by the bits of its device addresses: a read of 00F3 asks for the register that 00F2 named before the step,
-// and a store there goes to the one that it names now.
+// What a step has read and stored, by the bits of its device addresses: a read of 00F3 asks for the register that 00F2 named before the
+// step, and a store there goes to the one that it names now.
 pub fn hear(
     read: u16,
     stored: u16,

@@ -29,8 +29,8 @@ fn budget(head: &[u8; 64]) -> u32
     u32::from_le_bytes([head[1], head[2], head[3], head[4]])
 }
 
-// All that a head asks. Refusals: Form, registers whose last byte is above 2, or more cycles than can be counted; Edition, one that is neither
-// 1 nor 2.
+// All that a head asks. Refusals: Form, registers whose last byte is above 2, or more cycles than can be counted; Edition, one that is
+// neither 1 nor 2.
 pub fn asked(head: &[u8; 64]) -> Result<Request, Refusal>
     ensures { result ≡ asked_in head.now }
 {
