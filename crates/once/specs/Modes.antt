@@ -62,7 +62,7 @@ pub iax_once : One modes.iax.Reads.Post (λ κ e. behind_reading (second e))
 iax_once = record { same = performs }
 
 pub bit_operand_once : One modes.bit_operand.Reads.Post (λ κ e. behind_reading (second e))
-bit_operand_once = record { same = λ p q. performs p.performed q.performed }
+bit_operand_once = record { same = λ p q. performs p.0 q.0 }
 
 pub has_bit_once : Answers modes.has_bit.Reads.Post
 has_bit_once = record { same = answers }
