@@ -9,24 +9,21 @@ fn main(rt: HostRuntime) -> io::Result<()> {
     let mut from = rt.stdin();
     let mut to = rt.stdout();
     let mut packet = [0u8; 155712];
-    let mut left: u32 = 0xFFFF_FFFF;
-    while left > 0 {
+    for _ in 0..u32::MAX {
         let n = output::read_full(&mut from, &mut packet)?;
         if n == 0 {
             return Ok(());
         }
-        let refusal = auditor::session(&mut packet[..n]);
-        if refusal != 0 {
+        if let Err(refusal) = auditor::session(&mut packet[..n]) {
             return output::print(
                 &mut to,
                 Line::new()
                     .text(b"refused ")
-                    .decimal(refusal as u32)
+                    .decimal(u8::from(refusal) as u32)
                     .text(b"\n"),
             );
         }
         to.write_all(&packet[..n])?;
-        left -= 1;
     }
     Ok(())
 }

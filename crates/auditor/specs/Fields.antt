@@ -1,15 +1,17 @@
 -- What stands where in an answer.
 -- Assumes nothing.
-use Rattle.std.specs.Prelude.{ℕ, ◌+◌, ◌*◌, ◌/◌, ◌%◌, ◌<◌, ◌≤◌, ◌≡◌, refl, List, [], ◌∷◌, ◌++◌, length, get_or, take, drop}
-use Rattle.std.proofs.Common.{sym, subst, ◌∙◌, append-nil, append_assoc, arith, length-drop, take_at, drop_at, get_or-take, get_or-append-add, length-take-le, eq-eqb}
+use Rattle.std.specs.Prelude.{ℕ, ◌+◌, ◌*◌, ◌/◌, ◌%◌, ◌<◌, ◌≤◌, ◌≡◌, refl, List, [], ◌∷◌, ◌++◌, length, get_or, take, drop, None, Result, Ok}
+use Rattle.std.proofs.Common.{sym, ◌∙◌, append-nil, append_assoc, arith, length-drop, take_at, drop_at, get_or-take, get_or-append-add, length-take-le}
 use Rattle.std.proofs.Math.Path.{ap}
 use Rattle.std.specs.Int.Bits.{bit_or}
 use Rattle.std.proofs.Math.ListN.{length-append, get_or-append}
 use Rattle.std.proofs.Math.Seq.{take-append-le}
-use Rattle.marks.specs.Counts.{counts_of}
+use Rattle.refusals.specs.declared.Refusal.{Refusal}
+use Rattle.waking.specs.States.{number_of}
+use Rattle.marks.specs.Counts.{three_counts}
 use Rattle.marks.specs.declared.Counted.{Counted}
 use Rattle.memory.specs.World.{World, Sized}
-use Rattle.memory.specs.Access.{Outcome}
+use Rattle.memory.specs.Access.{Outcome, outcome}
 use Rattle.editions.specs.Editions.{edition_of}
 use Rattle.processor.specs.declared.Processor.{Processor}
 use Rattle.state.specs.Registers.{bytes_of, whole_of, whole_bytes_of}
@@ -18,6 +20,7 @@ use Rattle.engine.specs.Entry.{refusal_of, answer_of, accepted, run_of, run_answ
 use Rattle.engine.specs.Accepted.{accepts}
 use Rattle.engine.specs.Theorems.{run_keeps}
 use Rattle.engine.specs.declared.Ran.{Ran}
+use Rattle.watch.specs.Calls.{watched_run}
 use Rattle.watch.specs.Devices.{devices_read}
 use Rattle.blanking.specs.Calls.{blanked_image, unmarked}
 use Rattle.blanking.specs.Image.{length_blanked}
@@ -76,7 +79,7 @@ abbrev pub steps_of : List ℕ → Outcome World (Progress Processor)
 steps_of packet = run_of (edition_of (edition_in packet)) (budget_in packet) (whole_of (registers_in packet)) (world_in packet)
 
 -- What the engine answers to it.
-abbrev pub ran_on : List ℕ → Outcome World Ran
+abbrev pub ran_on : List ℕ → Outcome World (Result Ran Refusal)
 ran_on packet = run_answer (edition_in packet) (budget_in packet) (whole_of (registers_in packet)) (world_in packet)
 
 module _ (packet : List ℕ) (a : Accepted packet) where
@@ -88,73 +91,78 @@ module _ (packet : List ℕ) (a : Accepted packet) where
     writes = part_size 139328 8192 packet a.size (omega arith);
   }
 
-  none_refused : refusal_of (edition_in packet) (world_in packet) ≡ 0
+  none_refused : refusal_of (edition_in packet) (world_in packet) ≡ None
   none_refused = accepts (edition_in packet) (world_in packet) a.named start_sized
 
   pub ran_is : ran_on packet ≡ accepted (steps_of packet)
-  ran_is = rw (eq-eqb _ _ none_refused)
+  ran_is = rw none_refused
+
+  -- Nor is it refused where it is watched.
+  pub watched_is :
+      watched_run (edition_in packet) (budget_in packet) (whole_of (registers_in packet)) (world_in packet)
+      ≡ outcome (Ok (run_on packet).result) (run_on packet).left
+  watched_is = rw none_refused
 
   -- What the run leaves, what it answers, and which devices it reads, are the definition's.
   pub left_is : (run_on packet).left ≡ (steps_of packet).left
-  left_is = ap (λ (o : Outcome World Ran). o.left) ran_is
+  left_is = refl
 
   pub answer_is : (run_on packet).result.ran ≡ answer_of (steps_of packet).result
-  answer_is = ap (λ (o : Outcome World Ran). o.result) ran_is
+  answer_is = refl
 
   pub devices_are :
       (run_on packet).result.devices
       ≡ devices_read (edition_of (edition_in packet)) (budget_in packet) (whole_of (registers_in packet)) (memory_in packet)
-  devices_are = rw (eq-eqb _ _ none_refused)
+  devices_are = refl
 
   -- It leaves the lengths as they were.
   pub left_sized : Sized (run_on packet).left
   left_sized =
-      subst (λ (w : World). Sized w) (sym left_is)
       (run_keeps (edition_of (edition_in packet)) (budget_in packet) (whole_of (registers_in packet)) (world_in packet) start_sized).sized
 
 -- ---- a packet by its parts
 
 -- a row that is made of parts with these lengths
-record Parts (head memory image reads writes kept row : List ℕ) : Type 0 where
-  is : row ≡ head ++ memory ++ image ++ reads ++ writes ++ kept
-  of_head : length head ≡ 64
-  of_memory : length memory ≡ 65536
-  of_image : length image ≡ 65536
-  of_reads : length reads ≡ 8192
-  of_writes : length writes ≡ 8192
-  of_kept : length kept ≡ 8192
+pub record Parts (head memory image reads writes kept row : List ℕ) : Type 0 where
+  pub is : row ≡ head ++ memory ++ image ++ reads ++ writes ++ kept
+  pub of_head : length head ≡ 64
+  pub of_memory : length memory ≡ 65536
+  pub of_image : length image ≡ 65536
+  pub of_reads : length reads ≡ 8192
+  pub of_writes : length writes ≡ 8192
+  pub of_kept : length kept ≡ 8192
 
 -- Each part is found in its place.
 module _ {head memory image reads writes kept row : List ℕ} (p : Parts head memory image reads writes kept row) where
-  memory_part : memory_in row ≡ memory
+  pub memory_part : memory_in row ≡ memory
   memory_part =
       part_of 64 65536 row head memory (image ++ (reads ++ (writes ++ kept))) (p.is ∙ simp append_assoc) p.of_head p.of_memory
 
-  image_part : image_in row ≡ image
+  pub image_part : image_in row ≡ image
   image_part =
       part_of 65600 65536 row (head ++ memory) image (reads ++ (writes ++ kept)) (p.is ∙ simp append_assoc)
       (rw length-append (omega (arith, p.of_head, p.of_memory)))
       p.of_image
 
-  reads_part : reads_in row ≡ reads
+  pub reads_part : reads_in row ≡ reads
   reads_part =
       part_of 131136 8192 row (head ++ memory ++ image) reads (writes ++ kept) (p.is ∙ simp append_assoc)
       (simp length-append (omega (arith, p.of_head, p.of_memory, p.of_image)))
       p.of_reads
 
-  writes_part : writes_in row ≡ writes
+  pub writes_part : writes_in row ≡ writes
   writes_part =
       part_of 139328 8192 row (head ++ memory ++ image ++ reads) writes kept p.is
       (simp length-append (omega (arith, p.of_head, p.of_memory, p.of_image, p.of_reads)))
       p.of_writes
 
-  kept_part : kept_in row ≡ kept
+  pub kept_part : kept_in row ≡ kept
   kept_part =
       part_of 147520 8192 row (head ++ memory ++ image ++ reads ++ writes) kept [] (p.is ∙ sym (append-nil _))
       (simp length-append (omega (arith, p.of_head, p.of_memory, p.of_image, p.of_reads, p.of_writes)))
       p.of_kept
 
-  row_size : length row ≡ 155712
+  pub row_size : length row ≡ 155712
   row_size =
       rw p.is
       (simp length-append (omega (arith, p.of_head, p.of_memory, p.of_image, p.of_reads, p.of_writes, p.of_kept)))
@@ -179,7 +187,7 @@ number_behind row part size each n h =
 -- ---- the answer
 
 -- What is told of a run takes 31 bytes.
-told_size : (ran : Ran) (counted : Counted) (blanked devices : ℕ) → length (told ran counted blanked devices) ≡ 31
+pub told_size : (ran : Ran) (counted : Counted) (blanked devices : ℕ) → length (told ran counted blanked devices) ≡ 31
 unfolding told whole_bytes_of bytes_of
 told_size ran counted blanked devices = refl
 
@@ -192,7 +200,7 @@ module _ (packet : List ℕ) where
   -- what is told of the run, and what stands behind that
   abbrev told_of : List ℕ
   told_of =
-      told (run_on packet).result.ran (counts_of (run_on packet).left.reads (run_on packet).left.writes) (unmarked (keeps_of packet))
+      told (run_on packet).result.ran (three_counts (run_on packet).left.reads (run_on packet).left.writes) (unmarked (keeps_of packet))
       (bit_or (devices_in packet) (run_on packet).result.devices)
 
   abbrev further : List ℕ
@@ -209,9 +217,9 @@ module _ (packet : List ℕ) where
   unfolding answered head_of told
   by_parts =
       let ran = (run_on packet).result.ran in
-      let counted = counts_of (run_on packet).left.reads (run_on packet).left.writes in
+      let counted = three_counts (run_on packet).left.reads (run_on packet).left.writes in
       let devices = bit_or (devices_in packet) (run_on packet).result.devices in
-      regroup (take 6 packet) (whole_bytes_of ran.cpu) (ran.stop ∷ four_bytes ran.steps) (four_bytes counted.read_only)
+      regroup (take 6 packet) (whole_bytes_of ran.cpu) (number_of ran.cpu.state ∷ four_bytes ran.steps) (four_bytes counted.read_only)
       (four_bytes counted.stored_only) (four_bytes counted.both) (four_bytes (unmarked (keeps_of packet)))
       (devices % 256 ∷ devices / 256 ∷ []) (bytes_at 37 27 packet) (run_on packet).left.memory
       (blanked_image (keeps_of packet) (byte_in packet) (image_in packet)) (run_on packet).left.reads (run_on packet).left.writes
@@ -222,7 +230,7 @@ module _ (packet : List ℕ) where
 
   as_told : length told_of ≡ 31
   as_told =
-      told_size (run_on packet).result.ran (counts_of (run_on packet).left.reads (run_on packet).left.writes) (unmarked (keeps_of packet))
+      told_size (run_on packet).result.ran (three_counts (run_on packet).left.reads (run_on packet).left.writes) (unmarked (keeps_of packet))
       (bit_or (devices_in packet) (run_on packet).result.devices)
 
   module _ (a : Accepted packet) where
@@ -255,8 +263,8 @@ module _ (packet : List ℕ) where
         ∙ behind (take 6 packet) (told_of ++ further) n six
         ∙ get_or-append told_of further 0 n (omega (arith, as_told))
 
-    number_of : (n : ℕ) → n + 3 < 31 → number_at (6 + n) (answered packet) ≡ number_at n told_of
-    number_of = number_behind (answered packet) told_of 31 byte_of
+    four_of : (n : ℕ) → n + 3 < 31 → number_at (6 + n) (answered packet) ≡ number_at n told_of
+    four_of = number_behind (answered packet) told_of 31 byte_of
 
     -- The registers, the stop, the steps and the counts are those of the run,
     pub registers_are : registers_in (answered packet) ≡ whole_bytes_of (run_on packet).result.ran.cpu
@@ -266,29 +274,29 @@ module _ (packet : List ℕ) where
         ∙ ap (take 8) (drop_at (take 6 packet) (told_of ++ further) 6 six)
         ∙ take-append-le 8 told_of further (omega (arith, as_told))
 
-    pub stop_is : stop_in (answered packet) ≡ (run_on packet).result.ran.stop
+    pub stop_is : stop_in (answered packet) ≡ number_of (run_on packet).result.ran.cpu.state
     unfolding told whole_bytes_of bytes_of
     stop_is = byte_of 8 (omega arith)
 
     pub steps_are : steps_in (answered packet) ≡ (run_on packet).result.ran.steps
     unfolding told whole_bytes_of bytes_of
-    steps_are = number_of 9 (omega arith) ∙ four_again (run_on packet).result.ran.steps
+    steps_are = four_of 9 (omega arith) ∙ four_again (run_on packet).result.ran.steps
 
     pub counts_are :
-        let counted = counts_of (run_on packet).left.reads (run_on packet).left.writes in
+        let counted = three_counts (run_on packet).left.reads (run_on packet).left.writes in
         (read_only_in (answered packet) ≡ counted.read_only)
         × (stored_only_in (answered packet) ≡ counted.stored_only)
         × (both_in (answered packet) ≡ counted.both)
     unfolding told whole_bytes_of bytes_of
     counts_are = (
-      number_of 13 (omega arith) ∙ four_again _,
-      number_of 17 (omega arith) ∙ four_again _,
-      number_of 21 (omega arith) ∙ four_again _,
+      four_of 13 (omega arith) ∙ four_again _,
+      four_of 17 (omega arith) ∙ four_again _,
+      four_of 21 (omega arith) ∙ four_again _,
     )
 
     pub blanked_are : blanked_in (answered packet) ≡ unmarked (keeps_of packet)
     unfolding told whole_bytes_of bytes_of
-    blanked_are = number_of 25 (omega arith) ∙ four_again (unmarked (keeps_of packet))
+    blanked_are = four_of 25 (omega arith) ∙ four_again (unmarked (keeps_of packet))
 
     -- and the devices those that it or an earlier part has read.
     pub devices_in_answer : devices_in (answered packet) ≡ bit_or (devices_in packet) (run_on packet).result.devices

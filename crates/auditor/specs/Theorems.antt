@@ -5,9 +5,9 @@
 -- what the engine answers to the run that a packet asks for, and leaves. `Same` has a field for each thing that two runs have in common
 -- (runs/specs/Same); `clear` is a map without marks.
 -- Assumes nothing.
-use Rattle.std.specs.Prelude.{ℕ, ◌+◌, ◌≡◌, refl, List, length}
-use Rattle.std.proofs.Common.{sym, ap, subst, ◌∙◌, arith, eq-eqb, ne_eqb}
-use Rattle.std.proofs.Math.Decide.{ℕ_discrete}
+use Rattle.std.specs.Prelude.{ℕ, ◌+◌, ◌≡◌, refl, List, length, Option, Some, None, Result}
+use Rattle.std.proofs.Common.{sym, ap, subst, ◌∙◌, arith}
+use Rattle.refusals.specs.declared.Refusal.{Refusal}
 use Rattle.std.specs.Int.Bits.{bit_or}
 use Rattle.laws.specs.Filled.{Filled}
 use Rattle.waking.specs.States.{number_of}
@@ -31,23 +31,22 @@ use Rattle.blanking.specs.Calls.{blank_of}
 use Rattle.blanking.specs.Theorems.{not_refused}
 use Rattle.blanking.specs.Answers.{answer_to, same_answer}
 use Rattle.blanking.specs.Together.{keeps_first}
-use Rattle.blanking.specs.declared.Blanked.{Blanked}
 use Rattle.auditor.specs.Packet.{edition_in, budget_in, byte_in, registers_in, memory_in, reads_in, writes_in, devices_in, image_in, kept_in}
-use Rattle.auditor.specs.Audit.{refusal_of, run_on, keeps_of, answered, audit_of}
+use Rattle.auditor.specs.Audit.{refusal_of, run_on, keeps_of, answered, by_refusal, audit_of}
 use Rattle.auditor.specs.Inside.{world_in}
 use Rattle.auditor.specs.Accepted.{Accepted, accepted}
-use Rattle.auditor.specs.Fields.{stop_in, steps_in, steps_of, ran_on, left_is, answer_is, devices_are, registers_are, stop_is, steps_are}
+use Rattle.auditor.specs.Fields.{stop_in, steps_in, steps_of, ran_on, ran_is, left_is, answer_is, devices_are, registers_are, stop_is, steps_are}
 use Rattle.auditor.specs.Fields.{devices_in_answer, memory_is, reads_are, writes_are, image_is, kept_size, answer_size, part_size}
 
 -- ---- lengths
 
 -- Answered or refused, a packet keeps its length.
 pub same_length : (packet : List ℕ) → length (audit_of packet).left ≡ length packet
-same_length packet = go (ℕ_discrete (refusal_of packet) 0)
+same_length packet = go (refusal_of packet) refl
   where
-    go : Dec (refusal_of packet ≡ 0) → length (audit_of packet).left ≡ length packet
-    go (yes z) = let a = accepted packet z in rw (eq-eqb _ _ z) (answer_size packet a ∙ sym a.size)
-    go (no n) = rw (ne_eqb _ _ n)
+    go : (r : Option Refusal) → refusal_of packet ≡ r → length (by_refusal r packet).left ≡ length packet
+    go None z = let a = accepted packet z in answer_size packet a ∙ sym a.size
+    go (Some r) z = refl
 
 -- ---- a run in parts
 
@@ -93,7 +92,7 @@ module _ (packet : List ℕ) (a : Accepted packet) where
   registers_of = registers_are packet a ∙ ap (λ (r : Ran). whole_bytes_of r.cpu) (answer_is packet a)
 
   stop_of : stop_in (answered packet) ≡ number_of (steps_of packet).result.regs.state
-  stop_of = stop_is packet a ∙ ap (λ (r : Ran). r.stop) (answer_is packet a)
+  stop_of = stop_is packet a ∙ ap (λ (r : Ran). number_of r.cpu.state) (answer_is packet a)
 
   steps_told : steps_in (answered packet) ≡ (steps_of packet).result.steps
   steps_told = steps_are packet a ∙ ap (λ (r : Ran). r.steps) (answer_is packet a)
@@ -240,12 +239,15 @@ module _ (whole last second : List ℕ) (w : Accepted whole) (l : Accepted last)
   marks_stay : Keeps (answer_to (edition_in whole) (budget_in whole) (whole_of (registers_in whole)) (image_in last)).left.reads (keeps_of last)
   marks_stay =
       subst (λ (m : List ℕ). Keeps m (keeps_of last))
-      (sym (reads_are last l) ∙ reads ∙ reads_are whole w ∙ ap (λ (o : Outcome World Ran). o.left.reads) first_run)
+      (sym (reads_are last l)
+      ∙ reads
+      ∙ reads_are whole w
+      ∙ ap (λ (o : Outcome World (Result Ran Refusal)). o.left.reads) (sym (ran_is whole w) ∙ first_run))
       (keeps_first (run_on last).left.reads (kept_in last))
 
   blanked : (blank_of (keeps_of last) (byte_in last) (image_in last)).left ≡ image_in (answered last)
   blanked =
-      ap (λ (f : Filled Blanked). f.left)
+      ap (λ (f : Filled (Result ℕ Refusal)). f.left)
       (not_refused (keeps_of last) (byte_in last) (image_in last) (kept_size last l) (part_size 65600 65536 last l.size (omega arith)))
       ∙ sym (image_is last l)
 
@@ -255,8 +257,8 @@ module _ (whole last second : List ℕ) (w : Accepted whole) (l : Accepted last)
       let cpu = whole_of (registers_in whole) in
       let run = answer_to (edition_in whole) (budget_in whole) cpu in
       let same = same_answer (edition_in whole) (budget_in whole) cpu (image_in last) (keeps_of last) (byte_in last) marks_stay in
-      subst (λ (o : Outcome World Ran). Same (image_in last) (image_in (answered last)) o (ran_on second)) (sym first_run)
-      (subst (λ (q : Outcome World Ran). Same (image_in last) (image_in (answered last)) (run (image_in last)) q) (sym second_run)
+      subst (λ (o : Outcome World (Result Ran Refusal)). Same (image_in last) (image_in (answered last)) o (ran_on second)) (sym first_run)
+      (subst (λ (q : Outcome World (Result Ran Refusal)). Same (image_in last) (image_in (answered last)) (run (image_in last)) q) (sym second_run)
       (subst (λ (second : List ℕ). Same (image_in last) second (run (image_in last)) (run second)) blanked same))
 
 module _ (packet : List ℕ) (a : Accepted packet) (begins : Begins packet) where

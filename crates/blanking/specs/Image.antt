@@ -2,17 +2,17 @@
 -- Assumes nothing.
 use Prim.Native.Nat.{ℕ, zero, suc, ◌+◌, ◌<◌}
 use Rattle.std.proofs.Math.Path.{◌≡◌, refl, ap}
-use Rattle.std.proofs.Common.{sym, ◌∙◌, zero-add, suc-add, add-suc, ext_get_or, eqb-true}
-use Rattle.std.specs.Prelude.{Bool, true, false, cond, eqb, length, get_or, Option, Some, None, Result, Err}
+use Rattle.std.proofs.Common.{sym, ◌∙◌, zero-add, suc-add, add-suc, ext_get_or, ne_eqb}
+use Rattle.std.specs.Prelude.{Bool, true, false, cond, length, get_or, Option, None, Some, Result, Err}
 use mathlib.Core.List.{List, [], ◌∷◌}
 use Rattle.std.proofs.Math.Nat.{add-zero}
-use Rattle.std.proofs.lemmas.Option.{none-some}
-use Rattle.refusals.specs.declared.Refusal.{Refusal}
-use Rattle.refusals.specs.declared.Refusal.TheVariants as reason
+use Rattle.std.proofs.Math.Decide.{ℕ_discrete}
 use native.Mathlib.Omega.{arith}
 use Rattle.laws.specs.Filled.{Filled, filled}
 use Rattle.marks.specs.Maps.{is_marked}
-use Rattle.blanking.specs.Calls.{blanked_from, blanked_image, refusal_of, accepted, answered, blank_of}
+use Rattle.refusals.specs.declared.Refusal.{Refusal}
+use Rattle.refusals.specs.declared.Refusal.TheVariants.{Memory}
+use Rattle.blanking.specs.Calls.{blanked_from, blanked_image, refusal_of, accepted, outcome, blank_of}
 
 module _ (map : List ℕ) (byte : ℕ) where
   length_from : (at : ℕ) (image : List ℕ) → length (blanked_from map byte at image) ≡ length image
@@ -59,23 +59,22 @@ module _ (map : List ℕ) (byte : ℕ) where
         go k h false e = refl
 
     -- What holds of each outcome holds of the one that there is; which one it is goes by the lengths.
-    pub either : (P : Filled (Result ℕ Refusal) → Type 0)
-        → (refusal_of map image ≡ None → P (filled (accepted map) (blanked_image map byte image)))
-        → ((r : Refusal) → refusal_of map image ≡ Some r → P (filled (Err r) image)) → P (blank_of map byte image)
-    either P taken refused = go (refusal_of map image) refl
+    pub either : (P : Filled (Result ℕ Refusal) → Type 0) → (refusal_of map image ≡ None → P (filled (accepted map) (blanked_image map byte image)))
+        → ((refusal : Refusal) → refusal_of map image ≡ Some refusal → P (filled (Err refusal) image)) → P (blank_of map byte image)
+    either P taken not_taken = go (refusal_of map image) taken not_taken
       where
-        go : (r : Option Refusal) → refusal_of map image ≡ r → P (answered r map byte image)
-        go None z = taken z
-        go (Some r) z = refused r z
+        go : (r : Option Refusal) → (r ≡ None → P (filled (accepted map) (blanked_image map byte image)))
+            → ((refusal : Refusal) → r ≡ Some refusal → P (filled (Err refusal) image)) → P (outcome r map byte image)
+        go None taken not_taken = taken refl
+        go (Some refusal) taken not_taken = not_taken refusal refl
 
     -- An image that is not refused has 65,536 bytes.
     pub right_size : refusal_of map image ≡ None → length image ≡ 65536
     unfolding refusal_of
-    right_size z = go (eqb (length image) 65536) (cond (eqb (length map) 8192) None (Some reason.Map)) refl z
+    right_size z = elim (ℕ_discrete (length image) 65536) [ yes e ↦ e | no n ↦ absurd (wrong n) ]
       where
-        go : (b : Bool) (r : Option Refusal) → eqb (length image) 65536 ≡ b → cond b r (Some reason.Memory) ≡ None → length image ≡ 65536
-        go true r e z = eqb-true _ _ e
-        go false r e z = absurd (none-some _ (sym z))
+        wrong : (length image ≡ 65536 → ⊥) → ⊥
+        wrong n = let some : Some Memory ≡ None = rw (ne_eqb _ _ n) at z in cc
 
     pub same_refusal : (other : List ℕ) → length other ≡ length image → refusal_of map other ≡ refusal_of map image
     unfolding refusal_of

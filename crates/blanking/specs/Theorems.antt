@@ -1,8 +1,8 @@
 -- What a blanked image is worth: the run on it answers and leaves the same, and nothing is left in it of what stood at unmarked addresses.
 --
 -- The words: `blank_of map byte image` is what blanking answers (`.answer`), and what it leaves in the memory that held the image (`.left`):
--- the contract of `blanking::blank` says so of the code. Where it is accepted, it answers how many addresses the map does not
--- mark (`accepted map`), and leaves `blanked_image map byte image`. `played edition budget cpu image` is what a run that begins on the image
+-- the contract of `blanking::blank` says so of the code. Where it is accepted, it answers how many addresses the map does not mark
+-- (`accepted map`), and leaves `blanked_image map byte image`. `played edition budget cpu image` is what a run that begins on the image
 -- with clear maps answers and leaves, and `read_map edition budget cpu image` is the read map among that: the contract of `engine::run` says
 -- so of the code. `is_marked map k`: the map marks the address k; `get_or image k 0`: the image's byte there; `cond b x y`: x where b is true,
 -- else y. `Keeps one other`: the map `other` has at least the marks of `one`. `Same` has a field for each thing that two runs have in
@@ -34,7 +34,7 @@ pub record AgreeAt (map image second : List ℕ) : Type 0 where
 module _ (map : List ℕ) (byte : ℕ) (image : List ℕ) where
   -- Refused or not, no length changes,
   pub same_length : length (blank_of map byte image).left ≡ length image
-  same_length = either map byte image (λ o. length o.left ≡ length image) (λ z. length_blanked map byte image) (λ r n. refl)
+  same_length = either map byte image (λ o. length o.left ≡ length image) (λ z. length_blanked map byte image) (λ refusal e. refl)
 
   -- and no byte at a marked address.
   pub marked_stay : AgreeAt map image (blank_of map byte image).left
@@ -42,7 +42,7 @@ module _ (map : List ℕ) (byte : ℕ) (image : List ℕ) where
     equal = λ k h e.
         either map byte image (λ o. get_or image k 0 ≡ get_or o.left k 0)
         (λ z. marked_kept map byte image k (omega (arith, right_size map byte image z)) e)
-        (λ r n. refl);
+        (λ refusal e. refl);
   }
 
   -- Blanking twice with one byte is blanking once: the second time answers the same, and nothing changes any more.
@@ -54,7 +54,7 @@ module _ (map : List ℕ) (byte : ℕ) (image : List ℕ) where
       (λ z.
       rw (same_refusal map byte image blanked size ∙ z)
       (ap (filled (accepted map)) (same_blanked map byte image blanked size (marked_kept map byte image))))
-      (λ r n. rw n)
+      (λ refusal e. rw e)
 
   -- Where the lengths are right,
   module _ (map-size : length map ≡ 8192) (size : length image ≡ 65536) where
@@ -70,8 +70,8 @@ module _ (map : List ℕ) (byte : ℕ) (image : List ℕ) where
     -- The number that is answered, and what a count over this map and any other one tells of it, read only and both, make up all
     -- addresses.
     pub all_addresses : (writes : List ℕ) → length writes ≡ 8192
-        → IsOkAnd (blank_of map byte image).answer
-        (λ blanked. IsOkAnd (counts_of map writes) (λ counted. blanked + (counted.read_only + counted.both) ≡ 65536))
+        → IsOkAnd (blank_of map byte image).answer (λ blanked.
+        IsOkAnd (counts_of map writes) (λ counted. blanked + (counted.read_only + counted.both) ≡ 65536))
     all_addresses writes writes-size =
         rw (not_refused, eq-eqb _ _ map-size, eq-eqb _ _ writes-size, read_in_parts map writes)
         (in_parts 65536 (λ k. not (is_marked map k)) (λ k. is_marked map k) (λ k. true) (λ k. one (is_marked map k)) ∙ all_pass 65536)

@@ -49,7 +49,8 @@ fn put_reads_back(map: &mut Map, read: [u8; 8], stored: [u8; 8])
 fn put_stores_back(map: &mut Map, stored: [u8; 8])
     ensures { map.new ≡ take 8184 map.old ++ together stored (drop 8184 map.old) }
 {
-    blanking::join(&stored, &mut map[8184..]);
+    let last = map.last_chunk_mut::<8>().unwrap();
+    blanking::join(&stored, last);
 }
 
 // A step as the engine makes it. Meanwhile the marks of FFC0 to FFFF are set aside: so a read there leaves a mark whatever was read and

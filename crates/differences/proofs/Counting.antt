@@ -2,7 +2,8 @@
 -- Assumes nothing.
 use Rattle.std.proofs.Common.{ℕ, ◌+◌, ◌≤◌, Bool, false, ◌||◌, ◌≡◌, refl, List, [], ◌∷◌, length, zero-add, add-zero, Fits, w32, arith}
 use Rattle.std.proofs.Math.Bool.{or-false, or_assoc}
-use Rattle.differences.specs.Stretches.{Stretch, touches, touched}
+use Rattle.differences.specs.declared.Stretch.{Stretch}
+use Rattle.differences.specs.Stretches.{touches, touched}
 use Rattle.differences.specs.Calls.{accepted}
 use Rattle.differences.specs.declared.Differences.{Differences}
 

@@ -2,7 +2,8 @@
 -- Assumes nothing.
 use Rattle.std.proofs.Common.{ℕ, zero, suc, ◌+◌, ◌-◌, ◌<◌, ◌≤◌, Bool, true, false, ◌||◌, ◌≡◌, refl, sym, arith}
 use Rattle.std.specs.Prelude.{None}
-use Rattle.differences.specs.Stretches.{Stretch, some_from, touches}
+use Rattle.differences.specs.declared.Stretch.{Stretch}
+use Rattle.differences.specs.Stretches.{some_from, touches}
 use Rattle.differences.specs.Calls.{marks_of}
 
 -- Without a map nothing is touched.

@@ -7,7 +7,8 @@ use Rattle.std.proofs.Math.Path.{refl}
 use mathlib.Core.List.{List, [], ◌∷◌}
 use Rattle.std.proofs.Math.Decide.{ℕ_discrete}
 use native.Mathlib.Omega.{arith}
-use Rattle.differences.specs.Stretches.{Stretch, stretch, with_address, stretches_from}
+use Rattle.differences.specs.declared.Stretch.{Stretch}
+use Rattle.differences.specs.Stretches.{stretch, with_address, stretches_from}
 use Rattle.differences.specs.Maximal.{Throughout, Next, MaximalFrom, no_address, one_behind, one_before}
 
 -- What holds of either thing holds of the one that is chosen by whether two numbers are equal.

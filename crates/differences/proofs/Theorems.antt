@@ -9,7 +9,8 @@ use Rattle.std.proofs.Common.{zero-add}
 use Rattle.std.proofs.Math.Decide.{dec_lt}
 use native.Mathlib.Omega.{arith}
 use borrow.Author.Tests.{le-leb, lt-leb, eq-eqb, eqb-true, not-false}
-use Rattle.differences.specs.Stretches.{Stretch, stretch, some_from, touches, touched}
+use Rattle.differences.specs.declared.Stretch.{Stretch}
+use Rattle.differences.specs.Stretches.{stretch, some_from, touches, touched}
 use Rattle.differences.specs.Calls.{differ, stretches_of}
 use Rattle.differences.specs.Maximal.{MaximalFrom, not_first, both_answers, settled}
 use Rattle.differences.proofs.Maximal.{maximal}

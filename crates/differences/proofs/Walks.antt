@@ -4,7 +4,8 @@
 use Rattle.std.proofs.Common.{ℕ, suc, ◌-◌, ◌<◌, ◌≤◌, Bool, true, false, ◌≡◌, List, [], ◌∷◌, Option, None, Some, length, arith}
 use Rattle.std.proofs.Math.Decide.{dec_lt}
 use Rattle.std.specs.Option.{MatchOption, unwrap_or}
-use Rattle.differences.specs.Stretches.{Stretch, stretch, stretches_from}
+use Rattle.differences.specs.declared.Stretch.{Stretch}
+use Rattle.differences.specs.Stretches.{stretch, stretches_from}
 use Rattle.differences.specs.Maximal.{Next, MaximalFrom, only, both_answers, settled}
 use Rattle.differences.proofs.Maximal.{maximal}
 use Rattle.differences.proofs.Theorems.{few_from}

@@ -3,7 +3,7 @@
 use Rattle.std.proofs.Common.{ℕ, suc, ◌+◌, ◌*◌, ◌<◌, ◌≤◌, ◌≡◌, refl, ◌∙◌, List, [], ◌∷◌, length, zero-add, arith}
 use Rattle.std.proofs.Math.ListN.{set, length-set}
 use Rattle.std.proofs.Math.Seq.{sets, sets-eq}
-use Rattle.differences.specs.Stretches.{Stretch}
+use Rattle.differences.specs.declared.Stretch.{Stretch}
 use Rattle.differences.specs.Calls.{numbers_of, written}
 
 two_each : (stretches : List Stretch) → length (numbers_of stretches) ≡ 2 * length stretches

@@ -5,7 +5,8 @@ use Rattle.laws.specs.Filled.{Filled, filled}
 use Rattle.refusals.specs.declared.Refusal.{Refusal}
 use Rattle.refusals.specs.declared.Refusal.TheVariants.{Memory, Map, Room}
 use Rattle.marks.specs.Maps.{is_marked}
-use Rattle.differences.specs.Stretches.{Stretch, stretches_from, touched}
+use Rattle.differences.specs.declared.Stretch.{Stretch}
+use Rattle.differences.specs.Stretches.{stretches_from, touched}
 use Rattle.differences.specs.declared.Differences.{Differences}
 
 -- Whether two memories differ at an address.

@@ -8,7 +8,8 @@ use Rattle.std.proofs.Math.Path.{refl}
 use mathlib.Core.List.{List, [], ◌∷◌}
 use Rattle.std.proofs.Math.Decide.{dec_lt}
 use native.Mathlib.Omega.{arith}
-use Rattle.differences.specs.Stretches.{Stretch, stretch}
+use Rattle.differences.specs.declared.Stretch.{Stretch}
+use Rattle.differences.specs.Stretches.{stretch}
 
 -- From one address up to another, which is not counted, a test answers the same throughout.
 pub record Throughout (test : ℕ → Bool) (answer : Bool) (from to : ℕ) : Type 0 where

@@ -1,8 +1,8 @@
 -- The maximal stretches of the addresses that pass a test.
 use Rattle.std.specs.Prelude.{ℕ, zero, suc, ◌-◌, Bool, false, cond, ◌||◌, List, [], ◌∷◌, eqb}
--- A stretch of addresses: its first and its last. One address is a stretch, too.
-pub use Rattle.differences.specs.declared.Stretch.{Stretch}
+use Rattle.differences.specs.declared.Stretch.{Stretch}
 
+-- A stretch of addresses, by its first and its last. One address is a stretch, too.
 abbrev pub stretch : ℕ → ℕ → Stretch
 stretch first last = record { first = first; last = last }
 

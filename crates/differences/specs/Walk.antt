@@ -1,6 +1,7 @@
 -- How the code goes through two memories. For the contracts of the functions that no other crate calls.
 use Rattle.std.specs.Prelude.{ℕ, ◌-◌, List}
-use Rattle.differences.specs.Stretches.{Stretch, stretches_from}
+use Rattle.differences.specs.declared.Stretch.{Stretch}
+use Rattle.differences.specs.Stretches.{stretches_from}
 use Rattle.differences.specs.Calls.{differ}
 use Rattle.differences.specs.declared.Stretches.{Stretches}
 

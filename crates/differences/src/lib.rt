@@ -23,11 +23,11 @@ pub struct Differences {
     pub touched: bool,
 }
 
-// A stretch of addresses: its first and its last. One address is a stretch, too.
-#[derive(Clone, Copy)]
-struct Stretch {
-    first: u16,
-    last: u16,
+// A stretch of addresses: its first and its last. One address is a stretch, too. Public for the definitions of crates above.
+#[derive(Clone, Copy, Debug, PartialEq, Eq)]
+pub struct Stretch {
+    pub first: u16,
+    pub last: u16,
 }
 
 // Whether there is a map and it marks an address of a stretch. The first mark decides.

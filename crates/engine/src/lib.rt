@@ -26,6 +26,7 @@ pub fn take_steps(cpu: Processor, edition: Edition, bus: &mut Bus, budget: u32) 
 {
     let mut next = cpu;
     let mut left: u32 = budget;
+    // not a `for`: one that breaks off has to count the steps besides
     while left > 0 && next.is_awake() {
         next = phases::instruction(next, edition, bus);
         left = left - 1;
@@ -77,8 +78,9 @@ fn run_within(
     run_on(cpu, edition, &mut bus, budget)
 }
 
-// A run in one edition, given by its number: as many steps as the budget has, or fewer where SLEEP or STOP ends it. A record that one of the
-// two has put to rest takes no step until it is woken. Refusals: Edition, neither 1 nor 2; Memory, not 65,536 bytes; Map, not 8,192 bytes.
+// A run in one edition, given by its number, since a caller may give any: as many steps as the budget has, or fewer where SLEEP or STOP ends
+// it. A record that one of the two has put to rest takes no step until it is woken. Refusals: Edition, neither 1 nor 2; Memory, not 65,536
+// bytes; Map, not 8,192 bytes.
 pub fn run(
     cpu: Processor,
     edition: u8,

@@ -79,7 +79,8 @@ fn finish(made: Effect, bus: &mut Bus) -> Processor
     branch(stored, &mut reading, made.taken)
 }
 
-// A whole instruction.
+// A whole instruction, compiled into the loop of steps, its one caller (docs/SPEED.md).
+#[inline(always)]
 pub fn instruction(cpu: Processor, edition: Edition, bus: &mut Bus) -> Processor
     ensures { Performs (step_of edition cpu) bus.old bus.new result }
 {

@@ -9,7 +9,6 @@ use Rattle.editions.specs.declared.Edition.{Edition}
 use Rattle.host.specs.Turn.{Playing, turn_of}
 use Rattle.host.specs.Play.{goes_on}
 use Rattle.host.specs.Beside.{are_alike, Pair, pair, beside_of}
-use Rattle.host.specs.Lengths.{Whole, turn_keeps}
 use Rattle.host.specs.Theorems.{both_go, no_budget, parted, together}
 
 -- what two playings have come to, with so many steps more
@@ -20,18 +19,16 @@ with_steps b n = record { first = b.first; second = b.second; steps = b.steps + 
 pub record BothSoFar
     (edition : Edition) (until budget : ℕ) (p q : Playing) (left : ℕ) (first second : Playing) (alike : Bool) : Type 0 where
   pub within : left ≤ budget
-  pub one : Whole first
-  pub two : Whole second
   pub told : alike ≡ are_alike first second
   pub is : beside_of edition until budget p q ≡ with_steps (beside_of edition until left first second) (budget - left)
 
 -- nothing is done yet
-pub begun : {edition : Edition} {until budget : ℕ} {p q : Playing} {alike : Bool} → Whole p → Whole q → alike ≡ are_alike p q
+pub begun : {edition : Edition} {until budget : ℕ} {p q : Playing} {alike : Bool} → alike ≡ are_alike p q
     → BothSoFar edition until budget p q budget p q alike
-begun {edition} {until} {budget} {p} {q} one two told =
+begun {edition} {until} {budget} {p} {q} told =
     let rest = beside_of edition until budget p q in
     let none : rest.steps + (budget - budget) ≡ rest.steps = omega arith in
-    record { within = omega arith; one = one; two = two; told = told; is = rw none }
+    record { within = omega arith; told = told; is = rw none }
 
 module _ {edition : Edition} {until budget : ℕ} {p q : Playing} {left : ℕ} {first second : Playing} {alike : Bool}
     (sofar : BothSoFar edition until budget p q left first second alike) where
@@ -45,8 +42,6 @@ module _ {edition : Edition} {until budget : ℕ} {p q : Playing} {left : ℕ} {
       let go : both_go edition until first second ≡ true = rw (← sofar.told, t, goes, goes₂) in
       let steps : rest.steps + 1 + (budget - left) ≡ rest.steps + (budget - (left - 1)) = omega (arith, sofar.within) in record {
         within = omega (arith, sofar.within);
-        one = rw e (turn_keeps edition first sofar.one);
-        two = rw e₂ (turn_keeps edition second sofar.two);
         told = told;
         is =
             rw (e, e₂, ← steps)

@@ -3,36 +3,21 @@
 use Prim.Native.Nat.{ℕ, suc, ◌+◌, ◌-◌, ◌<◌, ◌≤◌}
 use mathlib.Core.Path.{◌≡◌, ap, sym, ◌∙◌}
 use mathlib.Core.Bool.{true, false}
-use mathlib.Core.List.{List}
 use native.Mathlib.Nat.{zero-add}
 use native.Mathlib.Omega.{arith}
 use lib.Dec.{ltb}
-use lib.ListN.{length}
 use borrow.Author.Tests.{ltb-true}
-use Rattle.memory.specs.World.{Sized, world}
 use Rattle.waking.specs.States.{is_awake}
 use Rattle.editions.specs.declared.Edition.{Edition}
 use Rattle.host.specs.Turn.{Playing, turn_of}
 use Rattle.host.specs.Play.{goes_on, Progress, progress, play_of}
-use Rattle.host.specs.Lengths.{Whole, turn_keeps}
 use Rattle.host.specs.Theorems.{at_rest, one_more}
 use Rattle.host.specs.declared.Player.{Player}
 use Rattle.host.proofs.And.{first_held}
 
--- a player, with memory and maps, the sound chip's row, and its map
-abbrev pub on : Player → List ℕ → List ℕ → List ℕ → List ℕ → List ℕ → Playing
-on player memory reads writes chip fetched =
-    record { player = player; world = world memory reads writes; chip = chip; fetched = fetched }
-
--- its lengths, as every function asks for them
-pub whole : {player : Player} {memory reads writes chip fetched : List ℕ}
-    → Sized (world memory reads writes) × (length chip ≡ 512) × (length fetched ≡ 8192) → Whole (on player memory reads writes chip fetched)
-whole lent = record { world = lent.0; chip = lent.1; fetched = lent.2 }
-
 -- Of a playing with a budget, from p, so much of the budget is left, and the steps so far gave q.
 pub record SoFar (edition : Edition) (until budget : ℕ) (p : Playing) (left : ℕ) (q : Playing) : Type 0 where
   pub within : left ≤ budget
-  pub whole : Whole q
   pub is :
       let rest = play_of edition until left q in play_of edition until budget p ≡ progress rest.playing (rest.steps + (budget - left))
 
@@ -43,11 +28,11 @@ unspent until player goes h =
     omega (arith, ltb-true cycles until (first_held (ltb cycles until) (is_awake player.cpu.state) goes))
 
 -- nothing is done yet
-pub begun : {edition : Edition} {until budget : ℕ} {p : Playing} → Whole p → SoFar edition until budget p budget p
-begun {edition} {until} {budget} {p} size =
+pub begun : {edition : Edition} {until budget : ℕ} {p : Playing} → SoFar edition until budget p budget p
+begun {edition} {until} {budget} {p} =
     let rest = play_of edition until budget p in
     let none : rest.steps + (budget - budget) ≡ rest.steps = omega arith in
-    record { within = omega arith; whole = size; is = rw none }
+    record { within = omega arith; is = rw none }
 
 module _ {edition : Edition} {until budget : ℕ} {p : Playing} {left : ℕ} {q : Playing} (sofar : SoFar edition until budget p left q) where
   -- one step more
@@ -58,7 +43,6 @@ module _ {edition : Edition} {until budget : ℕ} {p : Playing} {left : ℕ} {q 
       let one : left ≡ suc (left - 1) = omega arith in
       let steps : rest.steps + 1 + (budget - left) ≡ rest.steps + (budget - (left - 1)) = omega (arith, sofar.within) in record {
         within = omega (arith, sofar.within);
-        whole = rw e (turn_keeps edition q sofar.whole);
         is =
             rw (e, ← steps)
             (sofar.is

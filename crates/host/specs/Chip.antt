@@ -1,6 +1,7 @@
 -- The sound chip's row of 512 bytes: 128 registers; a byte for each of them, 1 where the song has asked for it; a byte for each number of a
 -- sample, 1 where the song has keyed it on. And the map of what the sound chip may fetch.
 use Rattle.std.specs.Prelude.{ℕ, zero, suc, ◌+◌, ◌*◌, ◌/◌, ◌%◌, cond, List, eqb, leb, get_or, set}
+use Rattle.devices.specs.Devices.{bit}
 use Rattle.samples.specs.Fetched.{voices}
 
 pub record Sound : Type 0 where
@@ -33,3 +34,9 @@ stored_to memory writes chip fetched =
     let changed = set chip register byte in
     cond (leb 128 register) (sound chip fetched)
     (cond (eqb register 0x4C) (keyed_on byte memory writes changed fetched) (sound changed fetched))
+
+-- The sound chip: a read of 00F3 asks for the register that 00F2 held before the step, and a store there goes to the one that it holds now.
+unfoldable pub heard : ℕ → ℕ → ℕ → List ℕ → List ℕ → Sound → Sound
+heard read stored name memory writes s =
+    let chip = cond (bit read 3) (asked name s.chip) s.chip in
+    cond (bit stored 3) (stored_to memory writes chip s.fetched) (sound chip s.fetched)

@@ -1,18 +1,20 @@
 -- A turn keeps the lengths: of memory, of the maps, and of the sound chip's row.
 -- Assumes nothing.
 use Prim.Native.Nat.{ℕ, zero, suc, ◌+◌, ◌*◌, ◌/◌, ◌%◌}
-use Rattle.std.specs.Prelude.{◌≡◌, refl, Bool, true, false, cond, List, eqb, leb, length, set}
+use Rattle.std.specs.Prelude.{◌≡◌, refl, Bool, true, false, cond, List, ◌∷◌, eqb, leb, length, set}
 use Rattle.std.proofs.Common.{◌∙◌, length-set}
 use Rattle.std.proofs.Math.ListN.{get_or}
-use Rattle.memory.specs.World.{World, Sized}
+use Rattle.std.proofs.Math.Seq.{length-sets}
+use Rattle.std.proofs.lemmas.List.Edits.{sets}
+use Rattle.memory.specs.World.{Sized}
 use Rattle.editions.specs.declared.Edition.{Edition}
 use Rattle.engine.specs.Theorems.{step_keeps}
 use Rattle.watch.proofs.Maps.{length_with}
 use Rattle.devices.specs.Devices.{bit}
 use Rattle.devices.specs.declared.Devices.{Devices}
 use Rattle.samples.specs.Lengths.{length_voices}
-use Rattle.host.specs.Chip.{Sound, sound, asked, keyed, keyed_on, stored_to}
-use Rattle.host.specs.Turn.{Playing, laid_out, ready, heard, turn_of}
+use Rattle.host.specs.Chip.{Sound, sound, asked, keyed, keyed_on, stored_to, heard}
+use Rattle.host.specs.Turn.{Playing, counts, laid_out, ready, turn_of}
 
 -- The lengths of a playing.
 pub record Whole (p : Playing) : Type 0 where
@@ -25,7 +27,9 @@ pub record Whole (p : Playing) : Type 0 where
 -- Laid out, memory is as long as it was.
 pub length_laid_out : (d : Devices) (chip memory : List ℕ) → length (laid_out d chip memory) ≡ length memory
 unfolding laid_out
-length_laid_out d chip memory = simp length-set
+length_laid_out d chip memory =
+    let answers = get_or chip (get_or memory 0xF2 0 % 128) 0 ∷ d.ports in
+    length-sets (sets memory 0xF3 answers) 0xFD (counts d) ∙ length-sets memory 0xF3 answers
 
 pub ready_sized : (p : Playing) → Sized p.world → Sized (ready p)
 ready_sized p size = record {
@@ -74,9 +78,9 @@ module _ (memory writes chip fetched : List ℕ) where
       }
       go false false = record { chip = length-set chip register byte; fetched = refl }
 
-heard_keeps : (read stored name : ℕ) (w : World) (s : Sound) → SameLengths s (heard read stored name w s)
+heard_keeps : (read stored name : ℕ) (memory writes : List ℕ) (s : Sound) → SameLengths s (heard read stored name memory writes s)
 unfolding heard
-heard_keeps read stored name w s = go (bit read 3) (bit stored 3)
+heard_keeps read stored name memory writes s = go (bit read 3) (bit stored 3)
   where
     length_asked : (b : Bool) → length (cond b (asked name s.chip) s.chip) ≡ length s.chip
     length_asked true = length-set s.chip _ 1
@@ -84,9 +88,9 @@ heard_keeps read stored name w s = go (bit read 3) (bit stored 3)
 
     go : (asks stores : Bool)
         → let chip = cond asks (asked name s.chip) s.chip in
-        SameLengths s (cond stores (stored_to w.memory w.writes chip s.fetched) (sound chip s.fetched))
+        SameLengths s (cond stores (stored_to memory writes chip s.fetched) (sound chip s.fetched))
     go asks true =
-        let more = stored_keeps w.memory w.writes (cond asks (asked name s.chip) s.chip) s.fetched in
+        let more = stored_keeps memory writes (cond asks (asked name s.chip) s.chip) s.fetched in
         record { chip = more.chip ∙ length_asked asks; fetched = more.fetched }
     go asks false = record { chip = length_asked asks; fetched = refl }
 
@@ -96,7 +100,7 @@ heard_keeps read stored name w s = go (bit read 3) (bit stored 3)
 pub turn_keeps : (edition : Edition) (p : Playing) → Whole p → Whole (turn_of edition p)
 unfolding turn_of
 turn_keeps edition p size =
-    let heard = heard_keeps _ _ _ _ (sound p.chip p.fetched) in record {
+    let heard = heard_keeps _ _ _ _ _ (sound p.chip p.fetched) in record {
       world = (step_keeps edition p.player.cpu (ready p) (ready_sized p size.world)).sized;
       chip = heard.chip ∙ size.chip;
       fetched = heard.fetched ∙ size.fetched;

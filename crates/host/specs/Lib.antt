@@ -6,3 +6,4 @@ pub mod Promises
 pub mod Lengths
 pub mod Theorems
 pub mod Exact
+pub mod Full

@@ -1,44 +1,46 @@
--- The contracts on the five lent slices of a playing, in the order of every function's parameters.
-use Rattle.std.specs.Prelude.{◌≡◌, length, ℕ, List}
-use Rattle.laws.specs.Lent.{Lent}
-use Rattle.memory.specs.Promises as lent
-use Rattle.host.specs.Turn.{Playing}
-use Rattle.host.specs.Play.{Progress, progress}
-use Rattle.host.specs.Beside.{Pair}
+-- The contracts on what is lent to a playing.
+use Rattle.std.specs.Prelude.{◌≡◌, ℕ}
+use Rattle.editions.specs.declared.Edition.{Edition}
+use Rattle.memory.specs.World.{world}
+use Rattle.host.specs.Turn.{Playing, turn_of}
+use Rattle.host.specs.Play.{progress, play_of}
+use Rattle.host.specs.Beside.{beside_of}
 use Rattle.host.specs.declared.Player.{Player}
+use Rattle.host.specs.declared.Song.{Song}
 use Rattle.host.specs.declared.Played.{Played}
 use Rattle.host.specs.declared.beside.Beside.{Beside}
 
--- Memory and maps of the right lengths, the sound chip's row, and its map.
-abbrev pub Set : List ℕ → List ℕ → List ℕ → List ℕ → List ℕ → Type 0
-Set memory reads writes chip fetched =
-    lent.Ready memory reads writes × (length chip ≡ 512) × (length fetched ≡ 8192)
-
--- a playing before a call, and after it
-abbrev pub before : Player → Lent → Lent → Lent → Lent → Lent → Playing
-before player memory reads writes chip fetched = record {
+-- a player, with what is behind a song
+abbrev pub on : Player → Song → Playing
+on player song = record {
   player = player;
-  world = lent.before memory reads writes;
-  chip = chip.entry;
-  fetched = fetched.entry;
+  world = world song.memory.now song.reads.now song.writes.now;
+  chip = song.chip.now;
+  fetched = song.fetched.now;
 }
 
-abbrev pub after : Player → Lent → Lent → Lent → Lent → Lent → Playing
-after player memory reads writes chip fetched = record {
-  player = player;
-  world = lent.after memory reads writes;
-  chip = chip.exit;
-  fetched = fetched.exit;
-}
+-- It borrows what it did, whatever that holds now.
+pub record SameLoans (before after : Song) : Type 0 where
+  pub memory : after.memory.ghost_name ≡ before.memory.ghost_name
+  pub reads : after.reads.ghost_name ≡ before.reads.ghost_name
+  pub writes : after.writes.ghost_name ≡ before.writes.ghost_name
+  pub chip : after.chip.ghost_name ≡ before.chip.ghost_name
+  pub fetched : after.fetched.ghost_name ≡ before.fetched.ghost_name
 
--- with what a call answers
-abbrev pub after_play : Played → Lent → Lent → Lent → Lent → Lent → Progress
-after_play r memory reads writes chip fetched = progress (after r.player memory reads writes chip fetched) r.steps
+-- A turn, a playing, and two of them side by side: what is answered, and what the songs hold then, is what the definition makes of what they
+-- held before.
+pub record Turns (edition : Edition) (player : Player) (before after : Song) (r : Player) : Type 0 where
+  pub is : on r after ≡ turn_of edition (on player before)
+  pub same : SameLoans before after
 
-abbrev pub after_beside : Beside → Lent → Lent → Lent → Lent → Lent → Lent → Lent → Lent → Lent → Lent → Pair
-after_beside r memory reads writes chip fetched memory₂ reads₂ writes₂ chip₂ fetched₂ = record {
-  first = after r.first memory reads writes chip fetched;
-  second = after r.second memory₂ reads₂ writes₂ chip₂ fetched₂;
-  steps = r.steps;
-  alike = r.alike;
-}
+pub record Plays (edition : Edition) (until budget : ℕ) (player : Player) (before after : Song) (r : Played) : Type 0 where
+  pub is : progress (on r.player after) r.steps ≡ play_of edition until budget (on player before)
+  pub same : SameLoans before after
+
+pub record PlaysBoth
+    (edition : Edition) (until budget : ℕ) (first second : Player) (one two one_after two_after : Song) (r : Beside) : Type 0 where
+  pub is :
+      record { first = on r.first one_after; second = on r.second two_after; steps = r.steps; alike = r.alike }
+      ≡ beside_of edition until budget (on first one) (on second two)
+  pub same : SameLoans one one_after
+  pub same_other : SameLoans two two_after

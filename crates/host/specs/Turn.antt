@@ -1,5 +1,5 @@
 -- One step of a song: the devices are laid out in memory, the step is taken, and what it has read and stored there goes to the devices.
-use Rattle.std.specs.Prelude.{ℕ, ◌%◌, Bool, cond, ◌&&◌, ◌||◌, List, [], ◌∷◌, get_or}
+use Rattle.std.specs.Prelude.{ℕ, ◌%◌, Bool, ◌&&◌, ◌||◌, List, ◌∷◌, map, get_or}
 use Rattle.std.proofs.lemmas.List.Edits.{sets}
 use Rattle.memory.specs.World.{World, world}
 use Rattle.memory.specs.Access.{Outcome, outcome, perform}
@@ -9,11 +9,11 @@ use Rattle.engine.specs.Entry.{counted_step}
 use Rattle.watch.specs.Devices.{devices_of}
 use Rattle.watch.specs.Marks.{with_marks}
 use Rattle.cycles.specs.Cost.{cost_of}
-use Rattle.devices.specs.Devices.{bit, with_notes, after_reads, after_stores, passed}
+use Rattle.devices.specs.Devices.{bit, after_reads, after_stores, passed}
 use Rattle.devices.specs.declared.Devices.{Devices}
 use Rattle.boot_rom.specs.Reading.{reads_rom}
 use Rattle.boot_rom.specs.declared.Stepped.{Stepped}
-use Rattle.host.specs.Chip.{Sound, sound, asked, stored_to}
+use Rattle.host.specs.Chip.{Sound, sound, heard}
 use Rattle.host.specs.declared.Player.{Player}
 
 -- All of a playing: registers and devices; memory and maps; the sound chip's row; the map of what it may fetch.
@@ -29,14 +29,18 @@ playing cpu devices w s =
 
 -- ---- before the step
 
+-- the counters of the timers
+abbrev pub counts : Devices → List ℕ
+counts d = map (λ t. t.count) d.timers
+
 -- What the devices answer stands in memory: at 00F3 the sound register that 00F2 names, at 00F4 to 00F7 what the console sent last, at 00FD
 -- to 00FF the counters of the timers. All else is as it was: at the other device addresses, what was stored there last.
 unfoldable pub laid_out : Devices → List ℕ → List ℕ → List ℕ
 laid_out d chip memory =
     sets
-    (sets memory 0xF3 (get_or chip (get_or memory 0xF2 0 % 128) 0 ∷ d.port0 ∷ d.port1 ∷ d.port2 ∷ d.port3 ∷ []))
+    (sets memory 0xF3 (get_or chip (get_or memory 0xF2 0 % 128) 0 ∷ d.ports))
     0xFD
-    (d.timer0.count ∷ d.timer1.count ∷ d.timer2.count ∷ [])
+    (counts d)
 
 -- No device address is marked, in either map, when the step begins.
 abbrev pub unmarked : World → World
@@ -62,13 +66,7 @@ step_on edition cpu w =
 unfoldable pub noted : ℕ → ℕ → List ℕ → Bool → ℕ → Devices → Devices
 noted read stored memory rom cost d =
     let next = after_stores stored memory (after_reads read d) in
-    passed cost (with_notes next.cycles next.read next.stored next.last (next.rom || rom) next)
-
--- The sound chip: a read of 00F3 asks for the register that 00F2 held before the step, and a store there goes to the one that it holds now.
-unfoldable pub heard : ℕ → ℕ → ℕ → World → Sound → Sound
-heard read stored name w s =
-    let chip = cond (bit read 3) (asked name s.chip) s.chip in
-    cond (bit stored 3) (stored_to w.memory w.writes chip s.fetched) (sound chip s.fetched)
+    passed cost (record next { rom = next.rom || rom })
 
 -- The turn. The marks of the device addresses tell what this step has read and stored there; they stay in the maps until the next.
 unfoldable pub turn_of : Edition → Playing → Playing
@@ -82,4 +80,4 @@ turn_of edition p =
     o.result.cpu
     (noted read stored o.left.memory o.result.rom (cost_of cpu start.memory) p.player.devices)
     o.left
-    (heard read stored (get_or start.memory 0xF2 0) o.left (sound p.chip p.fetched))
+    (heard read stored (get_or start.memory 0xF2 0) o.left.memory o.left.writes (sound p.chip p.fetched))

@@ -12,8 +12,11 @@ use Rattle.text.specs.Given.{Wanted, Given}
 use Rattle.text.proofs.Laws.{given_once}
 use Rattle.laws.specs.Filled.{Filled, filled}
 use Rattle.exports.specs.Calls.{Called, called}
+use Rattle.editions.specs.declared.Edition.{Edition}
 use Rattle.host.specs.Turn.{Playing}
-use Rattle.host.specs.Play.{Progress, progress}
+use Rattle.host.specs.Play.{Progress}
+use Rattle.host.specs.Promises.{Plays, PlaysBoth}
+use Rattle.host.specs.declared.Song.{Song}
 use Rattle.host.specs.Beside.{Pair}
 use Rattle.host.specs.declared.Player.{Player}
 use Rattle.host.specs.declared.Played.{Played}
@@ -71,30 +74,25 @@ fills p q = let same = p ∙ sym q in (ap (λ c. c.answer) same, ap (λ c. c.lef
 
 -- ---- playings
 
--- a playing by its player, its memory and maps, the sound chip's row and its map
-abbrev on : Player → List ℕ → List ℕ → List ℕ → List ℕ → List ℕ → Playing
-on player m s u c f = record { player = player; world = world m s u; chip = c; fetched = f }
-
--- all that it may write to
+-- all that a playing may write to
 abbrev five : Playing → List (List ℕ)
 five p = p.world.memory ∷ p.world.reads ∷ p.world.writes ∷ p.chip ∷ p.fetched ∷ []
 
-pub plays : {x y : Played} {m n s t u v c d f g : List ℕ} {o : Progress}
-    → progress (on x.player m s u c f) x.steps ≡ o → progress (on y.player n t v d g) y.steps ≡ o
-    → (x ≡ y) × ((m ∷ s ∷ u ∷ c ∷ f ∷ []) ≡ (n ∷ t ∷ v ∷ d ∷ g ∷ []))
+-- what a song holds: its memory and maps, the sound chip's row and its map
+abbrev pub held : Song → List (List ℕ)
+held s = s.memory.now ∷ s.reads.now ∷ s.writes.now ∷ s.chip.now ∷ s.fetched.now ∷ []
+
+pub plays : {edition : Edition} {until budget : ℕ} {player : Player} {a b c : Song} {x y : Played}
+    → Plays edition until budget player a b x → Plays edition until budget player a c y → (x ≡ y) × (held b ≡ held c)
 plays p q =
-    let same = p ∙ sym q in
+    let same = p.is ∙ sym q.is in
     (ap (λ (o : Progress). record { player = o.playing.player; steps = o.steps }) same, ap (λ (o : Progress). five o.playing) same)
 
-abbrev both : Beside → Playing → Playing → Pair
-both x p q = record { first = p; second = q; steps = x.steps; alike = x.alike }
-
-pub plays_both : {x y : Beside} {m n s t u v c d f g m₂ n₂ s₂ t₂ u₂ v₂ c₂ d₂ f₂ g₂ : List ℕ} {o : Pair}
-    → both x (on x.first m s u c f) (on x.second m₂ s₂ u₂ c₂ f₂) ≡ o
-    → both y (on y.first n t v d g) (on y.second n₂ t₂ v₂ d₂ g₂) ≡ o
-    → (x ≡ y) × ((m ∷ s ∷ u ∷ c ∷ f ∷ m₂ ∷ s₂ ∷ u₂ ∷ c₂ ∷ f₂ ∷ []) ≡ (n ∷ t ∷ v ∷ d ∷ g ∷ n₂ ∷ t₂ ∷ v₂ ∷ d₂ ∷ g₂ ∷ []))
+pub plays_both : {edition : Edition} {until budget : ℕ} {first second : Player} {a d b c e f : Song} {x y : Beside}
+    → PlaysBoth edition until budget first second a d b e x → PlaysBoth edition until budget first second a d c f y
+    → (x ≡ y) × ((held b ++ held e) ≡ (held c ++ held f))
 plays_both p q =
-    let same = p ∙ sym q in (
+    let same = p.is ∙ sym q.is in (
       ap (λ (o : Pair). record { first = o.first.player; second = o.second.player; steps = o.steps; alike = o.alike }) same,
       ap (λ (o : Pair). five o.first ++ five o.second) same,
     )
@@ -105,13 +103,13 @@ plays_both p q =
 abbrev seven : Packet → List (List ℕ)
 seven p = p.head ∷ p.chip ∷ p.world.memory ∷ p.world.reads ∷ p.world.writes ∷ p.fetched ∷ p.made ∷ []
 
-pub answered : {x y : ℕ} {p q : Packet} {a : packet.Answer} → packet.answer x p ≡ a → packet.answer y q ≡ a
+pub answered : {x y : Result Unit Refusal} {p q : Packet} {a : packet.Answer} → packet.answer x p ≡ a → packet.answer y q ≡ a
     → (x ≡ y) × (seven p ≡ seven q)
 answered p q =
-    let same = p ∙ sym q in (ap (λ (a : packet.Answer). a.refusal) same, ap (λ (a : packet.Answer). seven a.left) same)
+    let same = p ∙ sym q in (ap (λ (a : packet.Answer). a.result) same, ap (λ (a : packet.Answer). seven a.left) same)
 
-pub answered_both : {x y : ℕ} {p q p₂ q₂ : Packet} {a : packet.Answers} → packet.answers x p p₂ ≡ a → packet.answers y q q₂ ≡ a
+pub answered_both : {x y : Result Unit Refusal} {p q p₂ q₂ : Packet} {a : packet.Answers} → packet.answers x p p₂ ≡ a → packet.answers y q q₂ ≡ a
     → (x ≡ y) × ((seven p ++ seven p₂) ≡ (seven q ++ seven q₂))
 answered_both p q =
     let same = p ∙ sym q in
-    (ap (λ (a : packet.Answers). a.refusal) same, ap (λ (a : packet.Answers). seven a.first ++ seven a.second) same)
+    (ap (λ (a : packet.Answers). a.result) same, ap (λ (a : packet.Answers). seven a.first ++ seven a.second) same)

@@ -13,3 +13,6 @@ marks_of_once = record { same = λ p q. answers p.all q.all }
 
 pub put_marks_once : One watch.put_marks.Reads.Post (λ κ. first)
 put_marks_once = record { same = leaves }
+
+pub run_within_once : One watch.run_within.Reads.Post (λ κ e. third e ∷ fourth e ∷ fifth e ∷ [])
+run_within_once = record { same = runs }

@@ -3,16 +3,17 @@
 // line, as `refused 6`, and ends the program.
 #![tactic(auto)]
 
+use refusals::Refusal;
 use std::io::{self, Read, Write};
 use text::Line;
 
 // The line that answers a refused packet: there is no next one.
-fn refuse<W: Write>(to: &mut W, refusal: u8) -> io::Result<bool> {
+fn refuse<W: Write>(to: &mut W, refusal: Refusal) -> io::Result<bool> {
     output::print(
         to,
         Line::new()
             .text(b"refused ")
-            .decimal(refusal as u32)
+            .decimal(u8::from(refusal) as u32)
             .text(b"\n"),
     )?;
     Ok(false)
@@ -79,9 +80,9 @@ fn play<R: Read, W: Write>(from: &mut R, to: &mut W, head: &mut [u8]) -> io::Res
         &mut fetched,
         &mut made,
     )? {
-        return refuse(to, 6);
+        return refuse(to, Refusal::Form);
     }
-    let refusal = player::session(
+    let played = player::session(
         head,
         &mut chip,
         &mut memory,
@@ -90,7 +91,7 @@ fn play<R: Read, W: Write>(from: &mut R, to: &mut W, head: &mut [u8]) -> io::Res
         &mut fetched,
         &mut made,
     );
-    if refusal != 0 {
+    if let Err(refusal) = played {
         return refuse(to, refusal);
     }
     write(to, head, &chip, &memory, &reads, &writes, &fetched, &made)?;
@@ -122,7 +123,7 @@ fn beside<R: Read, W: Write>(from: &mut R, to: &mut W, head: &mut [u8]) -> io::R
         &mut made,
     )?;
     if !first || !fill(from, &mut head2)? {
-        return refuse(to, 6);
+        return refuse(to, Refusal::Form);
     }
     if !read(
         from,
@@ -133,9 +134,9 @@ fn beside<R: Read, W: Write>(from: &mut R, to: &mut W, head: &mut [u8]) -> io::R
         &mut fetched2,
         &mut made2,
     )? {
-        return refuse(to, 6);
+        return refuse(to, Refusal::Form);
     }
-    let refusal = player::beside(
+    let played = player::beside(
         head,
         &mut chip,
         &mut memory,
@@ -151,7 +152,7 @@ fn beside<R: Read, W: Write>(from: &mut R, to: &mut W, head: &mut [u8]) -> io::R
         &mut fetched2,
         &mut made2,
     );
-    if refusal != 0 {
+    if let Err(refusal) = played {
         return refuse(to, refusal);
     }
     write(to, head, &chip, &memory, &reads, &writes, &fetched, &made)?;
@@ -167,7 +168,7 @@ fn serve<R: Read, W: Write>(from: &mut R, to: &mut W, head: &mut [u8]) -> io::Re
         return Ok(false);
     }
     if head.len() != 64 {
-        return refuse(to, 6);
+        return refuse(to, Refusal::Form);
     }
     if head[22] == 0 {
         return play(from, to, head);

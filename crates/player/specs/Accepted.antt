@@ -1,8 +1,9 @@
 -- Which packets are accepted.
 -- Assumes nothing.
-use Rattle.std.specs.Prelude.{ℕ, suc, ◌≤◌, ◌≡◌, refl, Bool, true, false, cond, ◌&&◌, length}
+use Rattle.std.specs.Prelude.{◌≤◌, ◌≡◌, refl, Bool, true, false, cond, ◌&&◌, length, Result, Ok, Err}
 use Rattle.std.proofs.Common.{sym, true≢false, arith}
 use borrow.Author.Tests.{eq-eqb, eqb-true, le-leb, leb-true}
+use Rattle.refusals.specs.declared.Refusal.{Refusal}
 use Rattle.memory.specs.World.{Sized}
 use Rattle.editions.specs.Editions.{is_edition}
 use Rattle.state.specs.Registers.{is_whole}
@@ -24,14 +25,14 @@ both : (a b : Bool) → (a && b) ≡ true → (a ≡ true) × (b ≡ true)
 both true b e = (refl, e)
 both false b e = absurd (true≢false (sym e))
 
--- A test whose refusal is not 0 was passed.
-passed : (b : Bool) (rest refusal : ℕ) → cond b rest (suc refusal) ≡ 0 → (b ≡ true) × (rest ≡ 0)
-passed true rest refusal z = (refl, z)
-passed false rest refusal z = absurd (omega arith)
+-- A test whose refusal did not come was passed.
+passed : (b : Bool) (rest : Result Unit Refusal) (r : Refusal) → cond b rest (Err r) ≡ Ok tt → (b ≡ true) × (rest ≡ Ok tt)
+passed true rest r z = (refl, z)
+passed false rest r z = absurd (grind (arith, z))
 
 module _ (p : Packet) where
   -- Such a packet is accepted,
-  pub accepts : Accepted p → refusal_of p ≡ 0
+  pub accepts : Accepted p → refusal_of p ≡ Ok tt
   unfolding refusal_of
   accepts a =
       let sized = a.sized in
@@ -50,13 +51,13 @@ module _ (p : Packet) where
       )
 
   -- and no other one is.
-  pub accepted : refusal_of p ≡ 0 → Accepted p
+  pub accepted : refusal_of p ≡ Ok tt → Accepted p
   unfolding refusal_of
   accepted z =
-      let asked = passed _ _ 5 z in
-      let named = passed _ _ 8 asked.1 in
-      let memory = passed _ _ 0 named.1 in
-      let maps = passed _ 0 1 memory.1 in
+      let asked = passed _ _ _ z in
+      let named = passed _ _ _ asked.1 in
+      let memory = passed _ _ _ named.1 in
+      let maps = passed _ _ _ memory.1 in
       let near = both _ _ asked.0 in
       let whole = both _ _ near.0 in
       let rows = both _ _ whole.0 in

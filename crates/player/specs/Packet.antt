@@ -1,5 +1,8 @@
 -- What a packet is answered with.
-use Rattle.std.specs.Prelude.{ℕ, Bool, cond, ◌&&◌, List, eqb, leb, length, set}
+use Rattle.std.specs.Prelude.{ℕ, Bool, cond, ◌&&◌, List, eqb, leb, length, set, Result, Ok, Err}
+use Rattle.std.specs.Result.{result_and}
+use Rattle.refusals.specs.declared.Refusal.{Refusal}
+use Rattle.refusals.specs.declared.Refusal.TheVariants as reason
 use Rattle.psw.specs.Status.{one_if}
 use Rattle.memory.specs.World.{World, world}
 use Rattle.editions.specs.Editions.{is_edition, edition_of}
@@ -27,10 +30,10 @@ pub record Packet : Type 0 where
 
 -- ---- refusals
 
--- 6 exactly if the head is not 64 bytes or the row not 512, or if the registers have a last byte that is no state's number, or if the
--- playing is to end behind cycle 4,294,967,280; then 9 exactly if the edition is neither 1 nor 2; then 1 exactly if memory is not 65,536
--- bytes; then 2 exactly if a map is not 8,192 bytes; else 0.
-unfoldable pub refusal_of : Packet → ℕ
+-- Form exactly if the head is not 64 bytes or the row not 512, or if the registers have a last byte that is no state's number, or if the
+-- playing is to end behind cycle 4,294,967,280; then Edition exactly if the edition is neither 1 nor 2; then Memory exactly if memory is not
+-- 65,536 bytes; then Map exactly if a map is not 8,192 bytes; else it is accepted.
+unfoldable pub refusal_of : Packet → Result Unit Refusal
 refusal_of p =
     cond (eqb (length p.head) 64 && eqb (length p.chip) 512
     && is_whole (registers_in p.head) && leb (until_in p.head) 4294967280)
@@ -38,10 +41,10 @@ refusal_of p =
     (cond (eqb (length p.world.memory) 65536)
     (cond (eqb (length p.world.reads) 8192 && eqb (length p.world.writes) 8192
     && eqb (length p.fetched) 8192 && eqb (length p.made) 8192)
-    0 2)
-    1)
-    9)
-    6
+    (Ok tt) (Err reason.Map))
+    (Err reason.Memory))
+    (Err reason.Edition))
+    (Err reason.Form)
 
 -- ---- a playing
 
@@ -86,43 +89,47 @@ finished head p =
 
 -- ---- answers
 
--- a refusal, and what is left of a packet
+-- whether it was accepted, and what is left of a packet
 pub record Answer : Type 0 where
-  pub refusal : ℕ
+  pub result : Result Unit Refusal
   pub left : Packet
 
-abbrev pub answer : ℕ → Packet → Answer
-answer refusal left = record { refusal = refusal; left = left }
+abbrev pub answer : Result Unit Refusal → Packet → Answer
+answer result left = record { result = result; left = left }
 
--- A packet is played on with its own budget, in its own edition, up to its own cycle. Refused, it stays as it was.
+-- Refused, it stays as it was.
+abbrev pub answered : Result Unit Refusal → Packet → Packet → Answer
+answered (Ok u) p left = answer (Ok u) left
+answered (Err r) p left = answer (Err r) p
+
+-- A packet is played on with its own budget, in its own edition, up to its own cycle.
 unfoldable pub played_of : Packet → Answer
 played_of p =
     let o = play_of (edition_of (edition_in p.head)) (until_in p.head) (budget_in p.head) (begun_of p) in
-    cond (eqb (refusal_of p) 0)
-    (answer 0 (finished (head_of p.head o.playing.player o.steps) o.playing))
-    (answer (refusal_of p) p)
+    answered (refusal_of p) p (finished (head_of p.head o.playing.player o.steps) o.playing)
 
--- a refusal, and what is left of two packets
+-- whether both were accepted, and what is left of two packets
 pub record Answers : Type 0 where
-  pub refusal : ℕ
+  pub result : Result Unit Refusal
   pub first : Packet
   pub second : Packet
 
-abbrev pub answers : ℕ → Packet → Packet → Answers
-answers refusal first second = record { refusal = refusal; first = first; second = second }
+abbrev pub answers : Result Unit Refusal → Packet → Packet → Answers
+answers result first second = record { result = result; first = first; second = second }
+
+abbrev pub answered_both : Result Unit Refusal → Packet → Packet → Packet → Packet → Answers
+answered_both (Ok u) p q first second = answers (Ok u) first second
+answered_both (Err r) p q first second = answers (Err r) p q
 
 -- Byte 50 of a head tells whether two packets were alike.
 abbrev pub told : Bool → List ℕ → List ℕ
 told alike head = set head 50 (one_if alike)
 
--- Two packets are played on side by side, as the first one asks, and both heads tell whether they were alike to the last step.
+-- Two packets are played on side by side, as the first one asks, and both heads tell whether they were alike to the last step. The first
+-- one's refusal comes before the second's.
 unfoldable pub played_beside : Packet → Packet → Answers
 played_beside p q =
     let o = beside_of (edition_of (edition_in p.head)) (until_in p.head) (budget_in p.head) (begun_of p) (begun_of q) in
-    cond (eqb (refusal_of p) 0)
-    (cond (eqb (refusal_of q) 0)
-    (answers 0
+    answered_both (result_and (refusal_of p) (refusal_of q)) p q
     (finished (told o.alike (head_of p.head o.first.player o.steps)) o.first)
-    (finished (told o.alike (head_of q.head o.second.player o.steps)) o.second))
-    (answers (refusal_of q) p q))
-    (answers (refusal_of p) p q)
+    (finished (told o.alike (head_of q.head o.second.player o.steps)) o.second)

@@ -1,6 +1,6 @@
 -- What the maps of an answer mark, and the map of what a playing is made of; and that a playing goes on from what an answer holds.
 -- Assumes nothing.
-use Rattle.std.specs.Prelude.{ℕ, ◌+◌, ◌*◌, ◌/◌, ◌%◌, ◌^◌, ◌<◌, ◌≤◌, ◌≡◌, refl, Bool, true, not, cond, ◌||◌, List, ◌↔◌, length, get_or, set, take, drop}
+use Rattle.std.specs.Prelude.{ℕ, ◌+◌, ◌*◌, ◌/◌, ◌%◌, ◌^◌, ◌<◌, ◌≤◌, ◌≡◌, refl, Bool, true, not, cond, ◌||◌, List, ◌↔◌, length, get_or, set, take, drop, Ok}
 use Rattle.std.proofs.Math.Path.{sym, ap}
 use Rattle.std.proofs.Common.{subst, ◌∙◌, arith, length-set, set-set, drop_at, take-add, get_or-set_same, length-take-le, eq-eqb, ne_eqb}
 use Rattle.std.proofs.Math.Bool.{false}
@@ -24,15 +24,21 @@ use Rattle.watch.specs.Marks.{with_marks}
 use Rattle.watch.proofs.Maps.{get_low, get_high, get_other}
 use Rattle.blanking.specs.Together.{together, together_size, marks_of_either}
 use Rattle.devices.specs.declared.Devices.{Devices}
+use Rattle.devices.specs.Devices.{started}
+use Rattle.devices.specs.Lengths.{Full, started_full}
+use Rattle.devices.specs.Timers.{timer}
+use Rattle.samples.specs.Fetched.{voices}
 use Rattle.samples.specs.Lengths.{length_voices}
 use Rattle.host.specs.Turn.{Playing}
+use Rattle.host.specs.Play.{Progress}
+use Rattle.host.specs.Full.{three_at, four_at, play_full}
 use Rattle.host.specs.Lengths.{Whole}
 use Rattle.host.specs.Theorems.{Outside}
 use Rattle.host.specs.Exact as exact
 use Rattle.host.specs.Exact.{accesses, unmarked_same}
 use Rattle.host.specs.declared.Player.{Player}
-use Rattle.player.specs.Head.{edition_in, budget_in, until_in, begins_in, registers_in, devices_in, devices_of, devices_bytes, head_of}
-use Rattle.player.specs.Packet.{Packet, refusal_of, Start, start_of, begun_of, made_of, finished, played_of}
+use Rattle.player.specs.Head.{edition_in, budget_in, until_in, begins_in, registers_in, devices_in, devices_of, devices_bytes, head_of, timer_at}
+use Rattle.player.specs.Packet.{Packet, refusal_of, Start, start, start_of, begun_of, made_of, finished, played_of}
 use Rattle.player.specs.Accepted.{Accepted, accepts, accepted}
 use Rattle.player.specs.Promises.{played_to}
 
@@ -42,10 +48,10 @@ flag_again : (flag : Bool) → not (eqb (one_if flag) 0) ≡ flag
 flag_again true = refl
 flag_again false = refl
 
--- Devices that go into 27 bytes come back as they were.
-pub devices_and_back : (d : Devices) → devices_of (devices_bytes d) ≡ d
+-- Devices that go into 27 bytes come back as they were, three timers and four ports.
+pub devices_and_back : (d : Devices) → Full d → devices_of (devices_bytes d) ≡ d
 unfolding devices_of devices_bytes
-devices_and_back d =
+devices_and_back d full =
     let four : d.cycles % 256 + 256 * (d.cycles / 256 % 256) + 65536 * (d.cycles / 65536 % 256) + 16777216 * (d.cycles / 16777216)
     ≡ d.cycles = omega arith in
     let two : (n : ℕ) → word_of (n % 256) (n / 256) ≡ n = λ n. omega arith in
@@ -55,10 +61,28 @@ devices_and_back d =
       two d.stored,
       two d.last,
       flag_again d.rom,
-      flag_again d.timer0.on,
-      flag_again d.timer1.on,
-      flag_again d.timer2.on,
+      flag_again (timer_at d 0).on,
+      flag_again (timer_at d 1).on,
+      flag_again (timer_at d 2).on,
+      three_at (timer false 0 0 0) d.timers full.timers,
+      four_at 0 d.ports full.ports,
     )
+
+-- Bytes hold three timers and four ports, and so do those of an image; so there are as many to the end of a playing.
+begun_full : (p : Packet) → Full (begun_of p).player.devices
+unfolding start_of devices_of
+begun_full p = go (begins_in p.head)
+  where
+    go : (b : Bool)
+        → Full
+        (cond b
+        (start (whole_of (registers_in p.head)) (started p.world.memory) (voices 8 0 255 p.chip p.world.memory p.world.writes p.fetched))
+        (start (whole_of (registers_in p.head)) (devices_of (devices_in p.head)) p.fetched)).player.devices
+    go true = started_full p.world.memory
+    go false = record { timers = refl; ports = refl }
+
+pub played_full : (p : Packet) → Full (played_to p).playing.player.devices
+played_full p = play_full _ _ _ (begun_of p) (begun_full p)
 
 -- ---- what a playing is made of
 
@@ -122,13 +146,13 @@ module _ (p : Packet) (a : Accepted p) where
     pub read_map_exact : (is_marked (played_of p).left.world.reads k ≡ true) ↔ ReadFirst k accesses_of
     unfolding played_of finished
     read_map_exact =
-        rw (eq-eqb _ _ (accepts p a), unmarked_same other (played_to p).playing.world.reads)
+        rw (accepts p a, unmarked_same other (played_to p).playing.world.reads)
         (exact.read_map_exact _ _ k h other _ (begun_of p) begun_whole clear)
 
     pub written_map_exact : (is_marked (played_of p).left.world.writes k ≡ true) ↔ StoredAt k accesses_of
     unfolding played_of finished
     written_map_exact =
-        rw (eq-eqb _ _ (accepts p a), unmarked_same other (played_to p).playing.world.writes)
+        rw (accepts p a, unmarked_same other (played_to p).playing.world.writes)
         (exact.written_map_exact _ _ k h other _ (begun_of p) begun_whole clear)
 
 -- ---- a playing in parts
@@ -191,20 +215,20 @@ module _ (head : List ℕ) (size : length head ≡ 64) (player : Player) (steps 
   devices_there = stored_part (devices_bytes player.devices) three 23 (omega (arith, three_size))
 
   -- Who begins from it has the player back.
-  player_back : (chip memory writes fetched : List ℕ)
+  player_back : Full player.devices → (chip memory writes fetched : List ℕ)
       → start_of (head_of head player steps) chip memory writes fetched ≡ record { player = player; fetched = fetched }
   unfolding start_of
-  player_back chip memory writes fetched =
+  player_back full chip memory writes fetched =
       let later : eqb (get_or (head_of head player steps) 9 0) 0 ≡ false = rw goes in
       let cpu = ap whole_of registers_there ∙ record_to_whole_and_back player.cpu in
-      let devices = ap devices_of devices_there ∙ devices_and_back player.devices in
+      let devices = ap devices_of devices_there ∙ devices_and_back player.devices full in
       rw (later, cpu, devices)
 
   -- So does a packet with this head, in which a playing was left.
-  from_there : (q : Playing) → q.player ≡ player → GoesOn q (begun_of (finished (head_of head player steps) q))
+  from_there : Full player.devices → (q : Playing) → q.player ≡ player → GoesOn q (begun_of (finished (head_of head player steps) q))
   unfolding finished
-  from_there q is =
-      let back = player_back q.chip q.world.memory (with_marks q.world.writes 0) q.fetched in
+  from_there full q is =
+      let back = player_back full q.chip q.world.memory (with_marks q.world.writes 0) q.fetched in
       record {
         player = ap (λ (s : Start). s.player) back ∙ sym is;
         memory = refl;
@@ -214,17 +238,19 @@ module _ (head : List ℕ) (size : length head ≡ 64) (player : Player) (steps 
         fetched = ap (λ (s : Start). s.fetched) back;
       }
 
-module _ (p : Packet) (z : refusal_of p ≡ 0) where
-  left_is : (played_of p).left ≡ finished (head_of p.head (played_to p).playing.player (played_to p).steps) (played_to p).playing
+module _ (p : Packet) (z : refusal_of p ≡ Ok tt) where
+  abbrev o : Progress
+  o = played_to p
+
+  left_is : (played_of p).left ≡ finished (head_of p.head o.playing.player o.steps) o.playing
   unfolding played_of
-  left_is = rw (eq-eqb _ _ z)
+  left_is = rw z
 
   -- The packet that an accepted one leaves goes on from there.
   pub goes_on : GoesOn (played_to p).playing (begun_of (played_of p).left)
   goes_on =
-      let o = played_to p in
       subst (λ (l : Packet). GoesOn o.playing (begun_of l)) (sym left_is)
-      (from_there p.head (accepted p z).head o.playing.player o.steps o.playing refl)
+      (from_there p.head (accepted p z).head o.playing.player o.steps (played_full p) o.playing refl)
 
 -- ---- marks that were taken out
 

@@ -1,45 +1,50 @@
 // The head of a packet, 64 bytes: what is asked, and the player.
 ghost use Rattle.std.specs.Prelude.{◌+◌, ◌<◌, ◌≡◌, length};
-ghost use Rattle.player.specs.Head.{word_in, timer_in, devices_of, devices_bytes, budget_in, until_in, head_of};
-ghost use Rattle.player.specs.Promises.{Asks};
+ghost use Rattle.player.specs.Head.{word_in, timer_in, devices_of, devices_bytes, budget_in, until_in, asked_in, head_of};
 
 use devices::{Devices, Timer};
+use editions::Edition;
 use host::Player;
+use refusals::Refusal;
 
 // In which edition is played, up to which cycle, and how many steps at most.
 #[derive(Drop)]
 pub struct Request {
-    pub edition: u8,
+    pub edition: Edition,
     pub until: u32,
     pub budget: u32,
 }
 
-// How many steps may be taken.
-fn budget(head: &[u8]) -> u32
-    requires { length head.now ≡ 64 }
-    ensures { result ≡ budget_in head.now }
-{
-    state::number(head[1], head[2], head[3], head[4])
-}
-
 // At which cycle the playing ends.
-pub fn until(head: &[u8]) -> u32
-    requires { length head.now ≡ 64 }
+fn until(head: &[u8; 64]) -> u32
     ensures { result ≡ until_in head.now }
 {
-    state::number(head[5], head[6], head[7], head[8])
+    u32::from_le_bytes([head[5], head[6], head[7], head[8]])
 }
 
-// All that a head asks: one call in place of three, where many slices are at hand.
-pub fn asked(head: &[u8]) -> Request
-    requires { length head.now ≡ 64 }
-    ensures { Asks head.now result }
+// How many steps may be taken.
+fn budget(head: &[u8; 64]) -> u32
+    ensures { result ≡ budget_in head.now }
 {
-    Request {
-        edition: head[0],
+    u32::from_le_bytes([head[1], head[2], head[3], head[4]])
+}
+
+// All that a head asks. Refusals: Form, registers whose last byte is above 2, or more cycles than can be counted; Edition, one that is
+// neither 1 nor 2.
+pub fn asked(head: &[u8; 64]) -> Result<Request, Refusal>
+    ensures { result ≡ asked_in head.now }
+{
+    if !state::is_whole(&head[10..18]) {
+        return Err(Refusal::Form);
+    }
+    if until(head) > 4294967280 {
+        return Err(Refusal::Form);
+    }
+    Ok(Request {
+        edition: Edition::try_from(head[0])?,
         until: until(head),
         budget: budget(head),
-    }
+    })
 }
 
 // A number of two bytes, low first.
@@ -74,13 +79,12 @@ pub fn devices(bytes: &[u8]) -> Devices
         stored: word_in(bytes, 6),
         last: word_in(bytes, 8),
         rom: bytes[10] != 0,
-        timer0: timer_in(bytes, 11),
-        timer1: timer_in(bytes, 15),
-        timer2: timer_in(bytes, 19),
-        port0: bytes[23],
-        port1: bytes[24],
-        port2: bytes[25],
-        port3: bytes[26],
+        timers: [
+            timer_in(bytes, 11),
+            timer_in(bytes, 15),
+            timer_in(bytes, 19),
+        ],
+        ports: [bytes[23], bytes[24], bytes[25], bytes[26]],
     }
 }
 
@@ -89,9 +93,9 @@ fn set_devices(bytes: &mut [u8], devices: Devices)
     requires { length bytes.old ≡ 27 }
     ensures { bytes.new ≡ devices_bytes devices }
 {
-    let timer0 = devices.timer0;
-    let timer1 = devices.timer1;
-    let timer2 = devices.timer2;
+    let timer0 = devices.timers[0];
+    let timer1 = devices.timers[1];
+    let timer2 = devices.timers[2];
     let laid = [
         (devices.cycles % 256) as u8,
         (devices.cycles / 256 % 256) as u8,
@@ -116,23 +120,20 @@ fn set_devices(bytes: &mut [u8], devices: Devices)
         timer2.target,
         timer2.ticks,
         timer2.count,
-        devices.port0,
-        devices.port1,
-        devices.port2,
-        devices.port3,
+        devices.ports[0],
+        devices.ports[1],
+        devices.ports[2],
+        devices.ports[3],
     ];
     bytes.copy_from_slice(&laid);
 }
 
 // Lays the player and its steps into a head: who sends it back asks for what comes then.
-pub fn lay(head: &mut [u8], player: Player, steps: u32)
-    requires { length head.old ≡ 64 }
+pub fn lay(head: &mut [u8; 64], player: Player, steps: u32)
     ensures { head.new ≡ head_of head.old player steps }
 {
-    let cpu = player.cpu;
-    let devices = player.devices;
     head[9] = 1;
-    state::set_whole(&mut head[10..18], cpu);
+    state::set_whole(&mut head[10..18], player.cpu);
     state::set_number(&mut head[18..22], steps);
-    set_devices(&mut head[23..50], devices);
+    set_devices(&mut head[23..50], player.devices);
 }

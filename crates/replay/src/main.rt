@@ -15,14 +15,12 @@ fn main(rt: HostRuntime) -> io::Result<()> {
     let mut from = rt.stdin();
     let mut to = rt.stdout();
     let mut case = [0u8; 16];
-    let mut left: u32 = 0xFFFF_FFFF;
-    while left > 0 {
+    for _ in 0..u32::MAX {
         let got = output::read_full(&mut from, &mut case)?;
         if got < 16 {
             return Ok(());
         }
         output::print(&mut to, answer(case).push(b'\n'))?;
-        left -= 1;
     }
     Ok(())
 }

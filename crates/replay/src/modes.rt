@@ -69,47 +69,36 @@ fn kind(line: Line, number: u8) -> Line {
 // The name, and the modes that count.
 pub fn opcode(line: Line, byte: u8) -> Line {
     let data = OpcodeData::from_opcode(byte);
-    let name = data.name;
-    let modes = data.modes;
-    let three = letter(letter(letter(line, name[0]), name[1]), name[2]);
-    listed(letter(letter(three, name[3]), name[4]), modes)
-}
-
-// A letter of a name; a blank only fills it up.
-fn letter(line: Line, byte: u8) -> Line {
-    if byte == b' ' { line } else { line.push(byte) }
-}
-
-fn listed(line: Line, modes: Modes) -> Line {
-    let first = modes.first;
-    let second = modes.second;
-    let third = modes.third;
-    let count = modes.count;
-    match count {
-        0 => line,
-        1 => numbered(line, first),
-        2 => numbered(numbered(line, first), second),
-        _ => numbered(numbered(numbered(line, first), second), third),
-    }
+    let named = data
+        .name
+        .iter()
+        .filter(|letter| **letter != b' ')
+        .fold(line, |line, letter| line.push(*letter));
+    data.modes
+        .counted()
+        .iter()
+        .fold(named, |line, mode| numbered(line, *mode))
 }
 
 // The text of the modes of a case: a count, three modes with their numbers, and six operand bytes.
 pub fn format(line: Line, case: [u8; 16]) -> Line {
     let modes = Modes {
-        first: mode(case[2], case[3]),
-        second: mode(case[4], case[5]),
-        third: mode(case[6], case[7]),
+        three: [
+            mode(case[2], case[3]),
+            mode(case[4], case[5]),
+            mode(case[6], case[7]),
+        ],
         count: case[1],
     };
     let bytes = [case[9], case[10], case[11], case[12], case[13], case[14]];
     let mut out = [0u8; 80];
-    let written = opcode_data::format_address_modes(modes, &bytes, &mut out);
-    line.text(first(&out, written.length))
+    let length = opcode_data::format_address_modes(modes, &bytes, &mut out).unwrap_or(0);
+    line.text(first(&out, length))
 }
 
 // The text of the instruction that three bytes start with.
 pub fn instruction(line: Line, code: [u8; 3]) -> Line {
     let mut out = [0u8; 80];
-    let written = listing::instruction(&code, &mut out);
-    line.text(first(&out, written.length))
+    let length = listing::instruction(&code, &mut out).unwrap_or(0);
+    line.text(first(&out, length))
 }

@@ -1,4 +1,4 @@
 pub mod Giving
-pub mod Comparing
-pub mod Marking
 pub mod Parts
+pub mod Marking
+pub mod Comparing

@@ -2,7 +2,7 @@
 -- Assumes nothing.
 use Rattle.std.specs.Prelude.{ℕ, ◌+◌, ◌*◌, Bool, ◌≡◌, refl, List, [], ◌∷◌, length}
 use Rattle.std.proofs.Common.{arith}
-use Rattle.differences.specs.Stretches.{Stretch}
+use Rattle.differences.specs.declared.Stretch.{Stretch}
 use Rattle.differences.specs.Calls.{numbers_of}
 use Rattle.surveyor.specs.Survey.{in_bytes, answer}
 

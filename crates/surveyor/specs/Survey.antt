@@ -2,7 +2,8 @@
 use Rattle.std.specs.Prelude.{ℕ, ◌/◌, ◌%◌, Bool, false, cond, List, [], ◌∷◌, eqb, length, take, drop}
 use Rattle.text.specs.Quoted.{text}
 use Rattle.marks.specs.Maps.{is_marked}
-use Rattle.differences.specs.Stretches.{Stretch, stretches_from, touched}
+use Rattle.differences.specs.declared.Stretch.{Stretch}
+use Rattle.differences.specs.Stretches.{stretches_from, touched}
 use Rattle.differences.specs.Calls.{stretches_of, numbers_of}
 
 -- The maximal stretches of addresses that a map marks, of all 65,536.

@@ -5,13 +5,14 @@
 -- memories, of which differences/specs/Theorems says what this file says of a map's. `is_marked map k`: the map marks the address k.
 -- `nth stretches i` is the i-th stretch, from 0 on, and `holding k stretches` in how many of them the address k lies.
 -- Assumes nothing.
-use Rattle.std.specs.Prelude.{ℕ, ◌+◌, ◌*◌, ◌/◌, ◌%◌, ◌<◌, ◌≤◌, Bool, true, false, cond, ◌≡◌, refl, List, [], ◌∷◌, eqb, leb, length, get_or, take, drop}
+use Rattle.std.specs.Prelude.{ℕ, ◌+◌, ◌*◌, ◌/◌, ◌%◌, ◌<◌, ◌≤◌, Bool, true, false, cond, ◌≡◌, refl, List, [], ◌∷◌, eqb, leb, length, get_or, take, drop, Result, Ok, IsOkAnd}
 use Rattle.std.proofs.Common.{sym, ◌∙◌, arith, take_at, eq-eqb, le-leb}
 use Rattle.marks.specs.Maps.{is_marked}
-use Rattle.text.specs.Given.{Given, says, accepted}
+use Rattle.text.specs.Given.{Given, says}
 use Rattle.text.specs.Quoted.{text}
-use Rattle.text.specs.declared.Written.{Written}
-use Rattle.differences.specs.Stretches.{Stretch, stretch, touched}
+use Rattle.refusals.specs.declared.Refusal.{Refusal}
+use Rattle.differences.specs.declared.Stretch.{Stretch}
+use Rattle.differences.specs.Stretches.{stretch, touched}
 use Rattle.differences.specs.Calls.{differ, stretches_of, numbers_of}
 use Rattle.differences.specs.Maximal.{MaximalFrom, only}
 use Rattle.differences.proofs.Maximal.{maximal}
@@ -210,15 +211,15 @@ never_longer input = (each_short input).most
 
 -- So in a buffer that is as long as that, or longer, an answer is never refused, and what the buffer begins with is the whole of it: the
 -- program writes out that part.
-module _ (input before after : List ℕ) (r : Written) (gives : Given (says (survey_of input)) before after r)
+module _ (input before after : List ℕ) (r : Result ℕ Refusal) (gives : Given (says (survey_of input)) before after r)
     (room : 131073 ≤ length before) where
   fits : leb (length (survey_of input)) (length before) ≡ true
   fits = le-leb (length (survey_of input)) (length before) (omega (arith, never_longer input))
 
-  pub never_refused : r ≡ accepted (length (survey_of input))
+  pub never_refused : r ≡ Ok (length (survey_of input))
   never_refused = rw fits at gives.answer
 
-  pub whole_answer : take r.length after ≡ survey_of input
+  pub whole_answer : IsOkAnd r (λ length. take length after ≡ survey_of input)
   whole_answer =
       let laid = rw fits at gives.buffer in
       rw (never_refused, laid) (take_at (survey_of input) (drop (length (survey_of input)) before) _ refl)

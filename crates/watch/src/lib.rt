@@ -85,6 +85,7 @@ fn take_steps(cpu: Processor, edition: Edition, bus: &mut Bus, budget: u32) -> W
     let mut next = cpu;
     let mut left: u32 = budget;
     let mut devices: u16 = 0;
+    // not a `for`: one that breaks off has to count the steps besides
     while left > 0 && next.is_awake() {
         let turned = turn(next, edition, bus);
         next = turned.ran.cpu;
@@ -98,8 +99,8 @@ fn take_steps(cpu: Processor, edition: Edition, bus: &mut Bus, budget: u32) -> W
     }
 }
 
-// The same, on memory and maps that are lent one by one.
-fn run_within(
+// The same, on memory and maps that are lent one by one. They have their lengths and the edition is one, so nothing is refused.
+pub fn run_within(
     cpu: Processor,
     edition: Edition,
     memory: &mut Memory,

@@ -1,35 +1,38 @@
--- The tests are those of the definition, in its order; past them all is blanked that is to be.
+-- The invariant is `SoFar`: each address is either kept or blanked and counted.
 -- Assumes nothing.
-use Rattle.std.specs.Prelude.{ℕ, List, length, Ok, Err}
-use Rattle.std.proofs.Common.{◌≡◌, eq-eqb, ne_eqb}
-use Rattle.laws.specs.Filled.{filled}
-use Rattle.refusals.specs.declared.Refusal.TheVariants as reason
-use Rattle.blanking.specs.Calls.{unmarked, blanked_image, refusal_of, blank_of}
+use Rattle.std.proofs.Common.{rules, arith}
+use Rattle.std.proofs.lemmas.Result.{err_from_is_err_and}
+use Rattle.blanking.proofs.Walk.{wrong_memory, wrong_map, begin, count_fits, one_kept, one_blanked, all_blanked}
 use Rattle.blanking.proofs.blank.Goals as goal
+use Rattle.blanking.proofs.blank.Goals.{then-not-kept, else-not-kept}
 
-module _ (map : List ℕ) (byte : ℕ) (image : List ℕ) where
-  wrong_memory : (length image ≡ 65536 → ⊥) → filled (Err reason.Memory) image ≡ blank_of map byte image
-  unfolding refusal_of
-  wrong_memory n = rw (ne_eqb _ _ n)
+pub returns-then-memory-ne65536 : goal.returns-then-memory-ne65536
+returns-then-memory-ne65536 c = search (rules, wrong_memory)
 
-  module _ (size : length image ≡ 65536) where
-    wrong_map : (length map ≡ 8192 → ⊥) → filled (Err reason.Map) image ≡ blank_of map byte image
-    unfolding refusal_of
-    wrong_map n = rw (eq-eqb _ _ size, ne_eqb _ _ n)
+pub returns-in_err-map : goal.returns-in_err-map
+returns-in_err-map c =
+    let p = err_from_is_err_and c.from_residual.result c.from_residual.ensures.1 in
+    let e = c.in_err-map.ensures in
+    rw (p.1, p.2, e.0) (search (rules, wrong_map, e.1))
 
-    blanked : length map ≡ 8192 → {count : ℕ} {after : List ℕ} → (count ≡ unmarked map) × (after ≡ blanked_image map byte image)
-        → filled (Ok count) after ≡ blank_of map byte image
-    unfolding refusal_of
-    blanked m e = rw (eq-eqb _ _ size, eq-eqb _ _ m, e.0, e.1)
+pub loop-at-init : goal.loop-at-init
+loop-at-init c = search (rules, begin)
 
-pub returns-in_default : goal.returns-in_default
-returns-in_default c = wrong_memory _ _ _ c.in_default.ensures.cases
+pub overflow_add-blanked : goal.overflow_add-blanked
+overflow_add-blanked c = search (rules, count_fits)
 
-pub returns-in_default-as_array : goal.returns-in_default-as_array
-returns-in_default-as_array c =
-    let memory = c.in-Some.ensures.cases in rw memory.same (wrong_map _ _ _ memory.long c.in_default-as_array.ensures.cases)
+pub loop-at-preserved : goal.loop-at-preserved
+loop-at-preserved c =
+    let size = c.if-memory-ne65536.false in
+    let so = c.loop-at.invariant in
+    let is = c.is_marked-kept.ensures in
+    elim c.if-not-kept.branch [
+      | then-not-kept t ↦ one_blanked _ _ _ size so (omega arith) is t.if-not-kept.true t.memory-is t.blanked-is
+      | else-not-kept t ↦ one_kept _ _ _ size so (omega arith) is t.if-not-kept.false t.memory-is t.blanked-is
+    ]
 
 pub returns : goal.returns
 returns c =
-    let memory = c.in-Some.ensures.cases in
-    let map = c.in-Some-as_array.ensures.cases in blanked _ _ _ memory.long map.long (rw (memory.same, map.same) at c.blank_within.ensures)
+    let e = c.in_ok-map.ensures in
+    let so = rw e.0 at c.loop-at.invariant in
+    search (rules, all_blanked, e.1, so)

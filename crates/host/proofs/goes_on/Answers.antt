@@ -18,8 +18,8 @@ more_cycles until player more e = rw (lt-ltb _ _ more) e
 no_cycles : (until : ℕ) (player : Player) → until ≤ player.devices.cycles → ltb player.devices.cycles until ≡ goes_on until player
 no_cycles until player none = rw (le-ltb _ _ none)
 
-pub returns-then-devices-until : goal.returns-then-devices-until
-returns-then-devices-until c = search (rules, more_cycles)
+pub returns-then-player-until : goal.returns-then-player-until
+returns-then-player-until c = search (rules, more_cycles)
 
-pub returns-else-devices-until : goal.returns-else-devices-until
-returns-else-devices-until c = search (rules, no_cycles)
+pub returns-else-player-until : goal.returns-else-player-until
+returns-else-player-until c = search (rules, no_cycles)

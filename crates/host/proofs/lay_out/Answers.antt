@@ -1,23 +1,27 @@
--- The bytes are stored one after the other, in the order of the definition.
+-- The bytes are stored one after the other, in the order of the definition: those of the timers in a loop.
 -- Assumes nothing.
-use native.Mathlib.Omega.{arith}
-use lib.ListN.{length-set}
-use borrow.Author.Rules.{rules}
-use Rattle.host.specs.Turn.{laid_out}
+use Rattle.std.proofs.Common.{◌≡◌, List, [], ◌∷◌, ℕ, ◌%◌, false, get_or, length, sym, refl, ap, ◌∙◌, arith}
+use Rattle.std.proofs.Math.ListN.{get_or-map}
+use Rattle.std.proofs.lemmas.List.{length-map}
+use Rattle.std.proofs.lemmas.List.Edits.{sets}
+use Rattle.devices.specs.Timers.{timer}
+use Rattle.host.specs.Turn.{counts, laid_out}
+use Rattle.host.specs.Full.{four_at}
+use Rattle.host.proofs.Laying.{begun, one_laid, all_laid}
 use Rattle.host.proofs.lay_out.Goals as goal
 
-pub bounds-memory-247 : goal.bounds-memory-247
-bounds-memory-247 c = simp length-set (omega arith)
+pub loop-k-init : goal.loop-k-init
+loop-k-init c = begun _ _ _
 
-pub bounds-memory-253 : goal.bounds-memory-253
-bounds-memory-253 c = simp length-set (omega arith)
-
-pub bounds-memory-254 : goal.bounds-memory-254
-bounds-memory-254 c = simp length-set (omega arith)
-
-pub bounds-memory-255 : goal.bounds-memory-255
-bounds-memory-255 c = simp length-set (omega arith)
+pub loop-k-preserved : goal.loop-k-preserved
+loop-k-preserved c =
+    one_laid _ _ _ c.loop-k.invariant (simp length-map (omega arith))
+    (sym (get_or-map _ c.args.devices.timers c.loop-k.k (timer false 0 0 0))) refl
 
 pub returns : goal.returns
 unfolding laid_out
-returns c = search rules
+returns c =
+    let d = c.args.devices in
+    let named = get_or c.args.chip.now (get_or c.args.memory.now 0xF2 0 % 128) 0 in
+    all_laid _ _ _ c.loop-k.invariant (simp length-map (omega arith))
+    ∙ ap (λ (ports : List ℕ). sets (sets c.args.memory.now 0xF3 (named ∷ ports)) 0xFD (counts d)) (four_at 0 d.ports (omega arith))

@@ -6,7 +6,7 @@ use mathlib.Core.Bool.{Bool, true, false, cond, ◌||◌}
 use mathlib.Core.List.{List}
 use native.Mathlib.Omega.{arith}
 use lib.ListN.{get_or}
-use Rattle.devices.specs.Devices.{bit, with_notes, after_reads, controlled, aimed_all, after_stores, passed}
+use Rattle.devices.specs.Devices.{bit, after_reads, controlled, aimed_all, after_stores, passed}
 use Rattle.devices.specs.declared.Devices.{Devices}
 use Rattle.host.specs.Turn.{noted}
 use Rattle.host.proofs.note.Goals as goal
@@ -33,7 +33,7 @@ module _ (read stored : ℕ) (memory : List ℕ) (d : Devices) {reads stores : D
   still = ap (λ (x : Devices). x.cycles) (rw e at f) ∙ same_cycles read stored memory d
 
   all_noted : (rom : Bool) (cost : ℕ) {so : Bool} {after : Devices} → so ≡ (stores.rom || rom)
-      → after ≡ passed cost (with_notes stores.cycles stores.read stores.stored stores.last so stores)
+      → after ≡ passed cost (record stores { rom = so })
       → after ≡ noted read stored memory rom cost d
   unfolding noted
   all_noted rom cost g h = rw (h, g, f, e)

@@ -1,160 +1,84 @@
--- Nothing is stored in packets of which one is refused; in others, what each call leaves is what the next one finds.
+-- Nothing is stored before all tests are passed.
 -- Assumes nothing.
-use Prim.Native.Nat.{ℕ}
-use mathlib.Core.Bool.{Bool, cond}
-use mathlib.Core.Path.{◌≡◌, sym, ◌∙◌}
-use native.Mathlib.Decide.{ℕ_discrete}
-use lib.Dec.{eqb}
-use lib.ListN.{length}
-use borrow.Author.Tests.{eq-eqb, ne_eqb}
-use Rattle.player.specs.Packet.{Packet, answers, refusal_of, played_beside}
-use Rattle.player.specs.Accepted.{Accepted, accepted}
-use Rattle.player.specs.Promises.{packet_of, map_sizes, Refuses, refusal_of_both, played_both_on}
-use Rattle.player.proofs.Answered.{refused_for, ready, asked_well, begun, answered_both}
+use Rattle.std.proofs.Common.{◌∙◌}
+use Rattle.std.proofs.lemmas.Result.{err_from_is_err_and}
+use Rattle.player.proofs.Refused.{near, no_head, no_chip, no_memory, no_reads, no_writes, no_fetched, no_made, not_asked, taken, first_refused, first_accepted}
 use Rattle.player.proofs.beside.Goals as goal
 
--- Two packets are refused for the first one's refusal, or else for the second one's.
-either : (p q : Packet) {one two : ℕ} → one ≡ refusal_of p → two ≡ refusal_of q → cond (eqb one 0) two one ≡ refusal_of_both p q
-either p q e f = rw (e, f)
+pub returns-in_default : goal.returns-in_default
+returns-in_default c =
+    first_refused _ _ (no_head _ c.in_default.ensures.cases)
 
-module _ (p q : Packet) {refusal : ℕ} (is : refusal ≡ refusal_of_both p q) where
-  refused : (refusal ≡ 0 → ⊥) → answers refusal p q ≡ played_beside p q
-  unfolding played_beside
-  refused n = go (ℕ_discrete (refusal_of p) 0)
-    where
-      go : Dec (refusal_of p ≡ 0) → answers refusal p q ≡ played_beside p q
-      go (yes e) = let second : refusal ≡ refusal_of q = is ∙ rw (eq-eqb _ _ e) in rw (eq-eqb _ _ e, ← second, ne_eqb _ _ n)
-      go (no m) = let first : refusal ≡ refusal_of p = is ∙ rw (ne_eqb _ _ m) in rw (← first, ne_eqb _ _ n)
+pub returns-in_default-as_mut_array : goal.returns-in_default-as_mut_array
+returns-in_default-as_mut_array c =
+    let head = c.in-Some.ensures.cases in
+    rw (head.same)
+    (first_refused _ _ (no_chip _ head.long c.in_default-as_mut_array.ensures.cases))
 
-  module _ (z : refusal ≡ 0) where
-    neither : (refusal_of p ≡ 0) × (refusal_of q ≡ 0)
-    neither = go (ℕ_discrete (refusal_of p) 0)
-      where
-        go : Dec (refusal_of p ≡ 0) → (refusal_of p ≡ 0) × (refusal_of q ≡ 0)
-        go (yes e) = let second : refusal ≡ refusal_of q = is ∙ rw (eq-eqb _ _ e) in (e, sym second ∙ z)
-        go (no m) = let first : refusal ≡ refusal_of p = is ∙ rw (ne_eqb _ _ m) in absurd (m (sym first ∙ z))
+pub returns-in_default-as_mut_array-2 : goal.returns-in_default-as_mut_array-2
+returns-in_default-as_mut_array-2 c =
+    let head = c.in-Some.ensures.cases in
+    let chip = c.in-Some-as_mut_array.ensures.cases in
+    rw (head.same, chip.same)
+    (first_refused _ _ (no_memory _ head.long chip.long (rw head.same at c.in_ok-asked.ensures) c.in_default-as_mut_array-2.ensures.cases))
 
-    both_taken : Accepted p × Accepted q
-    both_taken = (accepted p neither.0, accepted q neither.1)
+pub returns-in_default-as_mut_array-3 : goal.returns-in_default-as_mut_array-3
+returns-in_default-as_mut_array-3 c =
+    let head = c.in-Some.ensures.cases in
+    let chip = c.in-Some-as_mut_array.ensures.cases in
+    let memory = c.in-Some-as_mut_array-2.ensures.cases in
+    rw (head.same, chip.same, memory.same)
+    (first_refused _ _ (no_reads _ head.long chip.long (rw head.same at c.in_ok-asked.ensures) memory.long c.in_default-as_mut_array-3.ensures.cases))
 
-    all_answered : {left right : Packet} → answers 0 left right ≡ played_both_on p q → answers 0 left right ≡ played_beside p q
-    unfolding played_beside
-    all_answered e = e ∙ rw (eq-eqb _ _ neither.0, eq-eqb _ _ neither.1)
+pub returns-in_default-as_mut_array-4 : goal.returns-in_default-as_mut_array-4
+returns-in_default-as_mut_array-4 c =
+    let head = c.in-Some.ensures.cases in
+    let chip = c.in-Some-as_mut_array.ensures.cases in
+    let memory = c.in-Some-as_mut_array-2.ensures.cases in
+    let reads = c.in-Some-as_mut_array-3.ensures.cases in
+    rw (head.same, chip.same, memory.same, reads.same)
+    (first_refused _ _ (no_writes _ head.long chip.long (rw head.same at c.in_ok-asked.ensures) memory.long reads.long c.in_default-as_mut_array-4.ensures.cases))
 
--- What the two packets of a call are refused for, and that they are accepted behind the test.
-module _ (p q : Packet) {maps maps₂ : Bool} {one two refusal : ℕ}
-    (m : maps ≡ map_sizes (length p.world.reads) (length p.world.writes) (length p.fetched) (length p.made))
-    (n : maps₂ ≡ map_sizes (length q.world.reads) (length q.world.writes) (length q.fetched) (length q.made))
-    (e : Refuses p.head (length p.chip) (length p.world.memory) maps one)
-    (f : Refuses q.head (length q.chip) (length q.world.memory) maps₂ two)
-    (r : refusal ≡ cond (eqb one 0) two one) where
-  of_both : refusal ≡ refusal_of_both p q
-  of_both = r ∙ either p q (refused_for p m e) (refused_for q n f)
+pub returns-in_default-as_mut_array-5 : goal.returns-in_default-as_mut_array-5
+returns-in_default-as_mut_array-5 c =
+    let head = c.in-Some.ensures.cases in
+    let chip = c.in-Some-as_mut_array.ensures.cases in
+    let memory = c.in-Some-as_mut_array-2.ensures.cases in
+    let reads = c.in-Some-as_mut_array-3.ensures.cases in
+    let writes = c.in-Some-as_mut_array-4.ensures.cases in
+    rw (head.same, chip.same, memory.same, reads.same, writes.same)
+    (first_refused _ _ (no_fetched _ head.long chip.long (rw head.same at c.in_ok-asked.ensures) memory.long reads.long writes.long c.in_default-as_mut_array-5.ensures.cases))
 
-  taken : refusal ≡ 0 → Accepted p × Accepted q
-  taken z = both_taken p q of_both z
+pub returns-in_default-as_mut_array-6 : goal.returns-in_default-as_mut_array-6
+returns-in_default-as_mut_array-6 c =
+    let head = c.in-Some.ensures.cases in
+    let chip = c.in-Some-as_mut_array.ensures.cases in
+    let memory = c.in-Some-as_mut_array-2.ensures.cases in
+    let reads = c.in-Some-as_mut_array-3.ensures.cases in
+    let writes = c.in-Some-as_mut_array-4.ensures.cases in
+    let fetched = c.in-Some-as_mut_array-5.ensures.cases in
+    rw (head.same, chip.same, memory.same, reads.same, writes.same, fetched.same)
+    (first_refused _ _ (no_made _ head.long chip.long (rw head.same at c.in_ok-asked.ensures) memory.long reads.long writes.long fetched.long c.in_default-as_mut_array-6.ensures.cases))
 
-pub returns-then-refusal-ne0 : goal.returns-then-refusal-ne0
-returns-then-refusal-ne0 c =
-    let a = c.args in
-    let p = packet_of a.head.now a.chip.now a.memory.now a.reads.now a.writes.now a.fetched.now a.made.now in
-    let q = packet_of a.head2.now a.chip2.now a.memory2.now a.reads2.now a.writes2.now a.fetched2.now a.made2.now in
-    let is =
-    of_both p q c.are_maps-maps.ensures c.are_maps-maps2.ensures c.refusal_of-one.ensures c.refusal_of-two.ensures
-    c.refusal_of_both-refusal.ensures in
-    refused p q is c.if-refusal-ne0.true
+pub returns-in_err-asked : goal.returns-in_err-asked
+returns-in_err-asked c =
+    let head = c.in-Some.ensures.cases in
+    let chip = c.in-Some-as_mut_array.ensures.cases in
+    let p = err_from_is_err_and c.from_residual.result c.from_residual.ensures.1 in
+    rw (p.1, p.2, head.same, chip.same) (first_refused _ _ (not_asked _ head.long chip.long (rw head.same at c.in_err-asked.ensures)))
 
-pub begin-first-requires : goal.begin-first-requires
-begin-first-requires c =
-    let a = c.args in
-    let p = packet_of a.head.now a.chip.now a.memory.now a.reads.now a.writes.now a.fetched.now a.made.now in
-    let q = packet_of a.head2.now a.chip2.now a.memory2.now a.reads2.now a.writes2.now a.fetched2.now a.made2.now in
-    let t =
-    taken p q c.are_maps-maps.ensures c.are_maps-maps2.ensures c.refusal_of-one.ensures c.refusal_of-two.ensures
-    c.refusal_of_both-refusal.ensures c.if-refusal-ne0.false in
-    ready t.0
-
-pub begin-second-requires : goal.begin-second-requires
-begin-second-requires c =
-    let a = c.args in
-    let p = packet_of a.head.now a.chip.now a.memory.now a.reads.now a.writes.now a.fetched.now a.made.now in
-    let q = packet_of a.head2.now a.chip2.now a.memory2.now a.reads2.now a.writes2.now a.fetched2.now a.made2.now in
-    let t =
-    taken p q c.are_maps-maps.ensures c.are_maps-maps2.ensures c.refusal_of-one.ensures c.refusal_of-two.ensures
-    c.refusal_of_both-refusal.ensures c.if-refusal-ne0.false in
-    ready t.1
-
-pub asked-asked-requires : goal.asked-asked-requires
-asked-asked-requires c =
-    let a = c.args in
-    let p = packet_of a.head.now a.chip.now a.memory.now a.reads.now a.writes.now a.fetched.now a.made.now in
-    let q = packet_of a.head2.now a.chip2.now a.memory2.now a.reads2.now a.writes2.now a.fetched2.now a.made2.now in
-    let t =
-    taken p q c.are_maps-maps.ensures c.are_maps-maps2.ensures c.refusal_of-one.ensures c.refusal_of-two.ensures
-    c.refusal_of_both-refusal.ensures c.if-refusal-ne0.false in
-    t.0.head
-
-pub play_both-both-requires : goal.play_both-both-requires
-play_both-both-requires c =
-    let a = c.args in
-    let p = packet_of a.head.now a.chip.now a.memory.now a.reads.now a.writes.now a.fetched.now a.made.now in
-    let q = packet_of a.head2.now a.chip2.now a.memory2.now a.reads2.now a.writes2.now a.fetched2.now a.made2.now in
-    let t =
-    taken p q c.are_maps-maps.ensures c.are_maps-maps2.ensures c.refusal_of-one.ensures c.refusal_of-two.ensures
-    c.refusal_of_both-refusal.ensures c.if-refusal-ne0.false in
-    let first = c.begin-first.auto.fetched ∙ t.0.fetched in
-    let second = c.begin-second.auto.fetched ∙ t.1.fetched in
-    record {
-      set = ((t.0.sized, t.0.chip, first), (t.1.sized, t.1.chip, second));
-      edition_value = asked_well t.0 c.asked-asked.ensures;
-    }
-
-pub end_told-requires : goal.end_told-requires
-end_told-requires c =
-    let a = c.args in
-    let p = packet_of a.head.now a.chip.now a.memory.now a.reads.now a.writes.now a.fetched.now a.made.now in
-    let q = packet_of a.head2.now a.chip2.now a.memory2.now a.reads2.now a.writes2.now a.fetched2.now a.made2.now in
-    let t =
-    taken p q c.are_maps-maps.ensures c.are_maps-maps2.ensures c.refusal_of-one.ensures c.refusal_of-two.ensures
-    c.refusal_of_both-refusal.ensures c.if-refusal-ne0.false in (
-      t.0.head,
-      record {
-        of_reads = c.play_both-both.auto.reads ∙ t.0.sized.reads;
-        of_writes = c.play_both-both.auto.writes ∙ t.0.sized.writes;
-        of_fetched = c.play_both-both.auto.fetched ∙ c.begin-first.auto.fetched ∙ t.0.fetched;
-        of_made = t.0.made;
-      },
-    )
-
-pub end_told-requires-2 : goal.end_told-requires-2
-end_told-requires-2 c =
-    let a = c.args in
-    let p = packet_of a.head.now a.chip.now a.memory.now a.reads.now a.writes.now a.fetched.now a.made.now in
-    let q = packet_of a.head2.now a.chip2.now a.memory2.now a.reads2.now a.writes2.now a.fetched2.now a.made2.now in
-    let t =
-    taken p q c.are_maps-maps.ensures c.are_maps-maps2.ensures c.refusal_of-one.ensures c.refusal_of-two.ensures
-    c.refusal_of_both-refusal.ensures c.if-refusal-ne0.false in (
-      t.1.head,
-      record {
-        of_reads = c.play_both-both.auto.reads2 ∙ t.1.sized.reads;
-        of_writes = c.play_both-both.auto.writes2 ∙ t.1.sized.writes;
-        of_fetched = c.play_both-both.auto.fetched2 ∙ c.begin-second.auto.fetched ∙ t.1.fetched;
-        of_made = t.1.made;
-      },
-    )
+pub play_second-requires : goal.play_second-requires
+play_second-requires c =
+    let head = c.in-Some.ensures.cases in near c.args.head.now (rw head.same at c.in_ok-asked.ensures)
 
 pub returns : goal.returns
 returns c =
-    let a = c.args in
-    let p = packet_of a.head.now a.chip.now a.memory.now a.reads.now a.writes.now a.fetched.now a.made.now in
-    let q = packet_of a.head2.now a.chip2.now a.memory2.now a.reads2.now a.writes2.now a.fetched2.now a.made2.now in
-    let is =
-    of_both p q c.are_maps-maps.ensures c.are_maps-maps2.ensures c.refusal_of-one.ensures c.refusal_of-two.ensures
-    c.refusal_of_both-refusal.ensures in
-    let l = c.end_told.ensures in
-    let r = c.end_told-2.ensures in
-    all_answered p q is c.if-refusal-ne0.false
-    (answered_both p q _ (begun p c.begin-first.ensures) (begun q c.begin-second.ensures) c.asked-asked.ensures
-    c.play_both-both.ensures
-    l.0.of_head l.1.of_reads l.1.of_writes l.1.of_made
-    r.0.of_head r.1.of_reads r.1.of_writes r.1.of_made)
+    let head = c.in-Some.ensures.cases in
+    let chip = c.in-Some-as_mut_array.ensures.cases in
+    let memory = c.in-Some-as_mut_array-2.ensures.cases in
+    let reads = c.in-Some-as_mut_array-3.ensures.cases in
+    let writes = c.in-Some-as_mut_array-4.ensures.cases in
+    let fetched = c.in-Some-as_mut_array-5.ensures.cases in
+    let made = c.in-Some-as_mut_array-6.ensures.cases in
+    first_accepted _ _ (taken _ head.long chip.long (rw head.same at c.in_ok-asked.ensures) memory.long reads.long writes.long fetched.long made.long)
+    (c.play_second.ensures ∙ rw (head.same, chip.same, memory.same, reads.same, writes.same, fetched.same, made.same))

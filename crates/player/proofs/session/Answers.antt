@@ -1,72 +1,84 @@
--- Nothing is stored in a packet that is refused; in another, what each call leaves is what the next one finds.
+-- Nothing is stored before all tests are passed.
 -- Assumes nothing.
-use Prim.Native.Nat.{ℕ}
-use mathlib.Core.Path.{◌≡◌, sym, ◌∙◌}
-use borrow.Author.Tests.{eq-eqb, ne_eqb}
-use Rattle.player.specs.Packet.{Packet, answer, refusal_of, played_of}
-use Rattle.player.specs.Accepted.{Accepted, accepted}
-use Rattle.player.specs.Promises.{packet_of, played_on}
-use Rattle.player.proofs.Answered.{refused_for, ready, asked_well, begun, ended, answered}
+use Rattle.std.proofs.Common.{◌∙◌}
+use Rattle.std.proofs.lemmas.Result.{err_from_is_err_and}
+use Rattle.player.proofs.Refused.{near, no_head, no_chip, no_memory, no_reads, no_writes, no_fetched, no_made, not_asked, taken, refused, accepted}
 use Rattle.player.proofs.session.Goals as goal
 
-module _ (p : Packet) {refusal : ℕ} (is : refusal ≡ refusal_of p) where
-  refused : (refusal ≡ 0 → ⊥) → answer refusal p ≡ played_of p
-  unfolding played_of
-  refused n = rw (← is, ne_eqb _ _ n)
+pub returns-in_default : goal.returns-in_default
+returns-in_default c =
+    refused _ (no_head _ c.in_default.ensures.cases)
 
-  module _ (z : refusal ≡ 0) where
-    taken : Accepted p
-    taken = accepted p (sym is ∙ z)
+pub returns-in_default-as_mut_array : goal.returns-in_default-as_mut_array
+returns-in_default-as_mut_array c =
+    let head = c.in-Some.ensures.cases in
+    rw (head.same)
+    (refused _ (no_chip _ head.long c.in_default-as_mut_array.ensures.cases))
 
-    all_answered : {left : Packet} → left ≡ played_on p → answer 0 left ≡ played_of p
-    unfolding played_of
-    all_answered e = rw (e, ← is, eq-eqb _ _ z)
+pub returns-in_default-as_mut_array-2 : goal.returns-in_default-as_mut_array-2
+returns-in_default-as_mut_array-2 c =
+    let head = c.in-Some.ensures.cases in
+    let chip = c.in-Some-as_mut_array.ensures.cases in
+    rw (head.same, chip.same)
+    (refused _ (no_memory _ head.long chip.long (rw head.same at c.in_ok-asked.ensures) c.in_default-as_mut_array-2.ensures.cases))
 
-pub returns-then-refusal-ne0 : goal.returns-then-refusal-ne0
-returns-then-refusal-ne0 c =
-    let a = c.args in
-    let p = packet_of a.head.now a.chip.now a.memory.now a.reads.now a.writes.now a.fetched.now a.made.now in
-    refused p (refused_for p c.are_maps-maps.ensures c.refusal_of-refusal.ensures) c.if-refusal-ne0.true
+pub returns-in_default-as_mut_array-3 : goal.returns-in_default-as_mut_array-3
+returns-in_default-as_mut_array-3 c =
+    let head = c.in-Some.ensures.cases in
+    let chip = c.in-Some-as_mut_array.ensures.cases in
+    let memory = c.in-Some-as_mut_array-2.ensures.cases in
+    rw (head.same, chip.same, memory.same)
+    (refused _ (no_reads _ head.long chip.long (rw head.same at c.in_ok-asked.ensures) memory.long c.in_default-as_mut_array-3.ensures.cases))
 
-pub begin-player-requires : goal.begin-player-requires
-begin-player-requires c =
-    let a = c.args in
-    let p = packet_of a.head.now a.chip.now a.memory.now a.reads.now a.writes.now a.fetched.now a.made.now in
-    ready (taken p (refused_for p c.are_maps-maps.ensures c.refusal_of-refusal.ensures) c.if-refusal-ne0.false)
+pub returns-in_default-as_mut_array-4 : goal.returns-in_default-as_mut_array-4
+returns-in_default-as_mut_array-4 c =
+    let head = c.in-Some.ensures.cases in
+    let chip = c.in-Some-as_mut_array.ensures.cases in
+    let memory = c.in-Some-as_mut_array-2.ensures.cases in
+    let reads = c.in-Some-as_mut_array-3.ensures.cases in
+    rw (head.same, chip.same, memory.same, reads.same)
+    (refused _ (no_writes _ head.long chip.long (rw head.same at c.in_ok-asked.ensures) memory.long reads.long c.in_default-as_mut_array-4.ensures.cases))
 
-pub asked-asked-requires : goal.asked-asked-requires
-asked-asked-requires c =
-    let a = c.args in
-    let p = packet_of a.head.now a.chip.now a.memory.now a.reads.now a.writes.now a.fetched.now a.made.now in
-    (taken p (refused_for p c.are_maps-maps.ensures c.refusal_of-refusal.ensures) c.if-refusal-ne0.false).head
+pub returns-in_default-as_mut_array-5 : goal.returns-in_default-as_mut_array-5
+returns-in_default-as_mut_array-5 c =
+    let head = c.in-Some.ensures.cases in
+    let chip = c.in-Some-as_mut_array.ensures.cases in
+    let memory = c.in-Some-as_mut_array-2.ensures.cases in
+    let reads = c.in-Some-as_mut_array-3.ensures.cases in
+    let writes = c.in-Some-as_mut_array-4.ensures.cases in
+    rw (head.same, chip.same, memory.same, reads.same, writes.same)
+    (refused _ (no_fetched _ head.long chip.long (rw head.same at c.in_ok-asked.ensures) memory.long reads.long writes.long c.in_default-as_mut_array-5.ensures.cases))
 
-pub play-played-requires : goal.play-played-requires
-play-played-requires c =
-    let a = c.args in
-    let p = packet_of a.head.now a.chip.now a.memory.now a.reads.now a.writes.now a.fetched.now a.made.now in
-    let t = taken p (refused_for p c.are_maps-maps.ensures c.refusal_of-refusal.ensures) c.if-refusal-ne0.false in
-    let asked = asked_well t c.asked-asked.ensures in
-    ((t.sized, t.chip, c.begin-player.auto.fetched ∙ t.fetched), asked.0, asked.1)
+pub returns-in_default-as_mut_array-6 : goal.returns-in_default-as_mut_array-6
+returns-in_default-as_mut_array-6 c =
+    let head = c.in-Some.ensures.cases in
+    let chip = c.in-Some-as_mut_array.ensures.cases in
+    let memory = c.in-Some-as_mut_array-2.ensures.cases in
+    let reads = c.in-Some-as_mut_array-3.ensures.cases in
+    let writes = c.in-Some-as_mut_array-4.ensures.cases in
+    let fetched = c.in-Some-as_mut_array-5.ensures.cases in
+    rw (head.same, chip.same, memory.same, reads.same, writes.same, fetched.same)
+    (refused _ (no_made _ head.long chip.long (rw head.same at c.in_ok-asked.ensures) memory.long reads.long writes.long fetched.long c.in_default-as_mut_array-6.ensures.cases))
 
-pub end-requires : goal.end-requires
-end-requires c =
-    let a = c.args in
-    let p = packet_of a.head.now a.chip.now a.memory.now a.reads.now a.writes.now a.fetched.now a.made.now in
-    let t = taken p (refused_for p c.are_maps-maps.ensures c.refusal_of-refusal.ensures) c.if-refusal-ne0.false in (
-      t.head,
-      record {
-        of_reads = c.play-played.auto.reads ∙ t.sized.reads;
-        of_writes = c.play-played.auto.writes ∙ t.sized.writes;
-        of_fetched = c.play-played.auto.fetched ∙ c.begin-player.auto.fetched ∙ t.fetched;
-        of_made = t.made;
-      },
-    )
+pub returns-in_err-asked : goal.returns-in_err-asked
+returns-in_err-asked c =
+    let head = c.in-Some.ensures.cases in
+    let chip = c.in-Some-as_mut_array.ensures.cases in
+    let p = err_from_is_err_and c.from_residual.result c.from_residual.ensures.1 in
+    rw (p.1, p.2, head.same, chip.same) (refused _ (not_asked _ head.long chip.long (rw head.same at c.in_err-asked.ensures)))
+
+pub play_on-requires : goal.play_on-requires
+play_on-requires c =
+    let head = c.in-Some.ensures.cases in near c.args.head.now (rw head.same at c.in_ok-asked.ensures)
 
 pub returns : goal.returns
 returns c =
-    let a = c.args in
-    let p = packet_of a.head.now a.chip.now a.memory.now a.reads.now a.writes.now a.fetched.now a.made.now in
-    let left = c.end.ensures in
-    all_answered p (refused_for p c.are_maps-maps.ensures c.refusal_of-refusal.ensures) c.if-refusal-ne0.false
-    (answered p _ (begun p c.begin-player.ensures) c.asked-asked.ensures c.play-played.ensures
-    (ended _ left.0 left.1.of_reads left.1.of_writes left.1.of_made))
+    let head = c.in-Some.ensures.cases in
+    let chip = c.in-Some-as_mut_array.ensures.cases in
+    let memory = c.in-Some-as_mut_array-2.ensures.cases in
+    let reads = c.in-Some-as_mut_array-3.ensures.cases in
+    let writes = c.in-Some-as_mut_array-4.ensures.cases in
+    let fetched = c.in-Some-as_mut_array-5.ensures.cases in
+    let made = c.in-Some-as_mut_array-6.ensures.cases in
+    accepted _ (taken _ head.long chip.long (rw head.same at c.in_ok-asked.ensures) memory.long reads.long writes.long fetched.long made.long)
+    (c.play_on.ensures ∙ rw (head.same, chip.same, memory.same, reads.same, writes.same, fetched.same))

@@ -1,75 +1,51 @@
--- The cycle and the marks decide, if they differ; and else, if something was stored, the bytes. What is left of these decides from each
--- address on, since those before it are the same.
+-- The cycle and the marks decide, if they differ; and else, if something was stored, the bytes.
 -- Assumes nothing.
-use Prim.Native.Nat.{ℕ, suc, ◌+◌, ◌-◌, ◌<◌, ◌≤◌}
-use mathlib.Core.Path.{◌≡◌, refl, sym}
-use mathlib.Core.Bool.{Bool, true, false, ◌&&◌}
-use mathlib.Core.List.{List}
-use native.Mathlib.Omega.{arith}
-use lib.Dec.{eqb}
-use lib.ListN.{get_or}
-use borrow.Author.Rules.{rules}
-use borrow.Author.Tests.{eq-eqb, ne_eqb}
+use Rattle.std.proofs.Common.{◌≡◌, ℕ, zero, suc, ◌+◌, ◌≤◌, ◌⊎◌, ⊎_elim, Bool, ◌&&◌, List, eqb, length, get_or, take, drop, refl, ap, ◌∙◌, arith, add-one, eq-eqb, ne_eqb}
+use lib.Pointwise.{pointwise}
+use Rattle.std.proofs.Math.Seq.{drop-cons}
 use Rattle.devices.specs.declared.Devices.{Devices}
 use Rattle.host.specs.Beside.{same_bytes, same_stores}
-use Rattle.host.proofs.beside.same_stores.Invariants.{SoFar}
 use Rattle.host.proofs.beside.same_stores.Goals as goal
+use Rattle.host.proofs.beside.same_stores.Goals.{then-c-d, else-c-d}
 
-module _ (memory other : List ℕ) where
-  begun : SoFar memory other 0xF0
-  begun = record { within = omega arith; is = refl }
-
-  -- the byte at an address, and those behind it
-  next : {at : ℕ} → at < 256 → SoFar memory other at
-      → same_bytes 16 0xF0 memory other ≡ (eqb (get_or memory at 0) (get_or other at 0) && same_bytes (256 - (at + 1)) (at + 1) memory other)
-  unfolding same_bytes
-  next {at} h so = let more : 256 - at ≡ suc (256 - (at + 1)) = omega arith in rw more at so.is
-
-  one_more : {at : ℕ} → at < 256 → SoFar memory other at → get_or memory at 0 ≡ get_or other at 0 → SoFar memory other (at + 1)
-  one_more h so e = record { within = omega arith; is = rw (eq-eqb _ _ e) at (next h so) }
-
-  parted : {at : ℕ} → at < 256 → SoFar memory other at → (get_or memory at 0 ≡ get_or other at 0 → ⊥) → false ≡ same_bytes 16 0xF0 memory other
-  parted h so e = sym (rw (ne_eqb _ _ e) at (next h so))
-
-  all : {at : ℕ} → SoFar memory other at → 256 ≤ at → true ≡ same_bytes 16 0xF0 memory other
-  unfolding same_bytes
-  all {at} so h = let none : 256 - at ≡ 0 = omega arith in sym (rw none at so.is)
+-- parts of two memories, byte by byte
+parts : (n at : ℕ) (memory other : List ℕ) → at + n ≤ length memory → at + n ≤ length other
+    → pointwise eqb (take n (drop at memory)) (take n (drop at other)) ≡ same_bytes n at memory other
+unfolding same_bytes
+parts zero at memory other h g = refl
+parts (suc n) at memory other h g =
+    rw (drop-cons memory at 0 (omega arith), drop-cons other at 0 (omega arith), add-one)
+    (ap (λ (b : Bool). eqb (get_or memory at 0) (get_or other at 0) && b) (parts n (suc at) memory other (omega arith) (omega arith)))
 
 module _ (c d : Devices) (memory other : List ℕ) where
-  other_cycle : (c.cycles ≡ d.cycles → ⊥) → false ≡ same_stores c d memory other
+  no_marks : {r : Bool} → c.cycles ≡ d.cycles → c.last ≡ d.last → c.last ≡ 0 → r ≡ eqb c.last 0 → r ≡ same_stores c d memory other
   unfolding same_stores
-  other_cycle e = rw (ne_eqb _ _ e)
-
-  other_marks : c.cycles ≡ d.cycles → (c.last ≡ d.last → ⊥) → false ≡ same_stores c d memory other
-  unfolding same_stores
-  other_marks e f = rw (eq-eqb _ _ e, ne_eqb _ _ f)
-
-  no_marks : c.cycles ≡ d.cycles → c.last ≡ d.last → c.last ≡ 0 → true ≡ same_stores c d memory other
-  unfolding same_stores
-  no_marks e f g = rw (eq-eqb _ _ e, eq-eqb _ _ f, eq-eqb _ _ g)
+  no_marks e f g h = rw (h, eq-eqb _ _ e, eq-eqb _ _ f, eq-eqb _ _ g)
 
   by_bytes : {r : Bool} → c.cycles ≡ d.cycles → c.last ≡ d.last → (c.last ≡ 0 → ⊥) → r ≡ same_bytes 16 0xF0 memory other
       → r ≡ same_stores c d memory other
   unfolding same_stores
   by_bytes e f g h = rw (eq-eqb _ _ e, eq-eqb _ _ f, ne_eqb _ _ g) h
 
-pub returns-then-c-d : goal.returns-then-c-d
-returns-then-c-d c = search (rules, other_cycle)
+  other_cycle : {r : Bool} → (c.cycles ≡ d.cycles → ⊥) → r ≡ eqb c.cycles d.cycles → r ≡ same_stores c d memory other
+  unfolding same_stores
+  other_cycle n h = rw (h, ne_eqb _ _ n)
 
-pub returns-then-c-d-2 : goal.returns-then-c-d-2
-returns-then-c-d-2 c = search (rules, other_marks)
+  other_marks : {r : Bool} → c.cycles ≡ d.cycles → r ≡ eqb c.last d.last
+      → (c.cycles ≡ d.cycles × (c.last ≡ d.last → ⊥)) ⊎ (c.cycles ≡ d.cycles → ⊥) → r ≡ same_stores c d memory other
+  unfolding same_stores
+  other_marks e h = ⊎_elim (λ k. rw (h, eq-eqb _ _ e, ne_eqb _ _ k.1)) (λ n. absurd (n e))
 
 pub returns-then-c-eq0 : goal.returns-then-c-eq0
-returns-then-c-eq0 c = search (rules, no_marks)
+returns-then-c-eq0 c = no_marks _ _ _ _ c.if-c-d-2.true.0 c.if-c-d-2.true.1 c.if-c-eq0.true refl
 
-pub loop-at-init : goal.loop-at-init
-loop-at-init c = search (rules, begun)
+pub returns-else-c-eq0 : goal.returns-else-c-eq0
+returns-else-c-eq0 c =
+    by_bytes _ _ _ _ c.if-c-d-2.true.0 c.if-c-d-2.true.1 c.if-c-eq0.false
+    (c.eq.ensures ∙ parts 16 240 c.args.memory.now c.args.other.now (omega arith) (omega arith))
 
-pub returns-then-memory-at : goal.returns-then-memory-at
-returns-then-memory-at c = search (rules, by_bytes, parted)
-
-pub loop-at-preserved : goal.loop-at-preserved
-loop-at-preserved c = search (rules, one_more)
-
-pub returns : goal.returns
-returns c = search (rules, by_bytes, all)
+pub returns-else-c-d-2 : goal.returns-else-c-d-2
+returns-else-c-d-2 c = elim c.if-c-d.branch [
+  | then-c-d w ↦ other_marks _ _ _ _ w.if-c-d.true w.t-6-is c.if-c-d-2.either
+  | else-c-d w ↦ other_cycle _ _ _ _ w.if-c-d.false w.t-6-is
+]

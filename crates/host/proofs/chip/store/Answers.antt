@@ -3,8 +3,7 @@
 use Prim.Native.Nat.{ℕ, ◌<◌, ◌≤◌}
 use mathlib.Core.Path.{◌≡◌}
 use mathlib.Core.List.{List}
-use native.Mathlib.Omega.{arith}
-use lib.ListN.{get_or, set, length-set}
+use lib.ListN.{get_or, set}
 use borrow.Author.Rules.{rules}
 use borrow.Author.Tests.{le-leb, lt-leb, eq-eqb, ne_eqb}
 use Rattle.samples.specs.Fetched.{voices}
@@ -33,15 +32,6 @@ module _ (memory writes chip fetched : List ℕ) where
 
 pub returns-then-register-ge128 : goal.returns-then-register-ge128
 returns-then-register-ge128 c = search (rules, nowhere)
-
-pub fetch_voices-requires : goal.fetch_voices-requires
-fetch_voices-requires c = record {
-  in_bounds = omega (arith, simp length-set at c.note_keyed.auto.chip);
-  fetching = search rules;
-}
-
-pub shape_of-chip-then-register-eq76 : goal.shape_of-chip-then-register-eq76
-shape_of-chip-then-register-eq76 c = simp length-set at c.note_keyed.auto.chip
 
 pub returns-then-register-eq76 : goal.returns-then-register-eq76
 returns-then-register-eq76 c = search (rules, keys)

@@ -1,6 +1,6 @@
 -- Each part has just the room that is stored there.
 -- Assumes nothing.
-use Prim.Native.Nat.{ℕ, ◌≤◌}
+use Prim.Native.Nat.{ℕ}
 use mathlib.Core.Path.{◌≡◌, refl, ◌∙◌}
 use mathlib.Core.List.{List}
 use native.Mathlib.Omega.{arith}
@@ -21,9 +21,6 @@ module _ (head : List ℕ) (size : length head ≡ 64) (player : Player) where
   begun_size : length begun ≡ 64
   begun_size = length-set head 9 1 ∙ size
 
-  whole_room : 18 ≤ length begun
-  whole_room = omega (arith, begun_size)
-
   module _ {eight : List ℕ} (is : eight ≡ whole_bytes_of player.cpu) where
     abbrev one : List ℕ
     one = put_mid 10 8 begun eight
@@ -35,9 +32,6 @@ module _ (head : List ℕ) (size : length head ≡ 64) (player : Player) where
     one_size : length one ≡ 64
     one_size = rw with_registers (length-sets begun 10 (whole_bytes_of player.cpu) ∙ begun_size)
 
-    number_room : 22 ≤ length one
-    number_room = omega (arith, one_size)
-
     module _ (steps : ℕ) {four : List ℕ} (n : four ≡ four_bytes steps) where
       abbrev two : List ℕ
       two = put_mid 18 4 one four
@@ -48,32 +42,13 @@ module _ (head : List ℕ) (size : length head ≡ 64) (player : Player) where
       two_size : length two ≡ 64
       two_size = rw with_steps (length-sets one 18 (four_bytes steps) ∙ one_size)
 
-      devices_room : 50 ≤ length two
-      devices_room = omega (arith, two_size)
-
       module _ {rest : List ℕ} (d : rest ≡ devices_bytes player.devices) where
         with_devices : put_mid 23 27 two rest ≡ sets two 23 (devices_bytes player.devices)
         unfolding devices_bytes
         with_devices = rw d (put_stored two (devices_bytes player.devices) 23 refl (omega (arith, two_size)))
 
-        still : length (put_mid 23 27 two rest) ≡ length head
-        still = rw with_devices (length-sets two 23 (devices_bytes player.devices) ∙ omega (arith, two_size))
-
         all_laid : put_mid 23 27 two rest ≡ head_of head player steps
         all_laid = with_devices ∙ rw (with_steps, with_registers)
-
-pub slice_bounds-set_whole-end : goal.slice_bounds-set_whole-end
-slice_bounds-set_whole-end c = search (rules, whole_room)
-
-pub slice_bounds-set_number-end : goal.slice_bounds-set_number-end
-slice_bounds-set_number-end c = search (rules, number_room)
-
-pub slice_bounds-set_devices-end : goal.slice_bounds-set_devices-end
-slice_bounds-set_devices-end c = search (rules, devices_room)
-
-pub shape_of-head : goal.shape_of-head
-shape_of-head c = still c.args.head.now c.requires c.args.player c.set_whole.ensures c.args.steps
-    c.set_number.ensures c.set_devices.ensures
 
 pub returns : goal.returns
 returns c = search (rules, all_laid)
