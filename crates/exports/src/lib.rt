@@ -1,6 +1,7 @@
 // The library that other programs link: C's view of the engine and of a wake, the count of marks, the differences between two memories,
 // blanked images, the listing, SPC files and state records, which include/spc700.h documents. Every call has no condition, and answers one
-// number. Crate exports_c gives C these calls, where a slice is a pointer and a length.
+// number. Crate exports_c gives C these calls, where a slice is a pointer and a length: so slices have any length here, a sign stands beside
+// a map that there may be, and what a call answers is packed.
 #![tactic(auto)]
 
 ghost use Rattle.std.specs.Prelude.{◌≡◌};
@@ -60,7 +61,8 @@ pub fn spc700_run(
     packed(run_from(registers, edition, budget, memory, reads, writes))
 }
 
-// The run, from registers and back into them.
+// The run, from registers and back into them. Compiled into both calls, since a step by itself would pay for one with so many arguments.
+#[inline(always)]
 fn run_from(
     registers: &mut [u8],
     edition: u8,

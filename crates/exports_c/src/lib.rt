@@ -1,4 +1,5 @@
-// The functions of crate exports as C calls them: each with the same contract. include/spc700.h documents them.
+// The functions of crate exports as C calls them: each with the same contract. include/spc700.h documents them. They stand apart because a
+// crate is a library or a static library, and not both.
 #![tactic(auto)]
 
 ghost use Rattle.laws.specs.Lent.{lent};
