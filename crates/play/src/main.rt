@@ -180,12 +180,11 @@ fn main(rt: HostRuntime) -> io::Result<()> {
     let mut from = rt.stdin();
     let mut to = rt.stdout();
     let mut head = [0u8; 64];
-    let mut more = true;
-    let mut left: u32 = 0xFFFF_FFFF;
-    while left > 0 && more {
+    for _ in 0..u32::MAX {
         let n = output::read_full(&mut from, &mut head)?;
-        more = serve(&mut from, &mut to, &mut head[..n])?;
-        left -= 1;
+        if !serve(&mut from, &mut to, &mut head[..n])? {
+            return Ok(());
+        }
     }
     Ok(())
 }

@@ -73,11 +73,9 @@ pub fn ask(bus: &mut Bus, given: &Case) -> Answer {
     }
 }
 
-// A step, and why it stopped. It is not refused: there is a first edition, and the lengths are right.
+// A step, and why it stopped.
 fn step(cpu: Processor, bus: &mut Bus) -> Answer {
-    let Ok(ran) = engine::step(cpu, 1, bus.memory, bus.reads, bus.writes) else {
-        return found(cpu, 0);
-    };
+    let ran = engine::take_steps(cpu, Edition::First, bus, 1);
     Answer {
         cpu: ran.cpu,
         stop: u8::from(ran.cpu.state),
