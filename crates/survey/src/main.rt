@@ -10,7 +10,7 @@ fn main(rt: HostRuntime) -> io::Result<()> {
     let n = output::read_full(&mut rt.stdin(), &mut input)?;
     // 32,768 stretches, four bytes each, and the byte before them
     let mut out = [0u8; 131073];
-    let written = surveyor::session(&input[..n], &mut out);
-    let length = written.length;
+    // a refused call writes nothing
+    let length = surveyor::session(&input[..n], &mut out).unwrap_or(0);
     rt.stdout().write_all(&out[..length])
 }
