@@ -34,3 +34,4 @@ pub mod Listing
 pub mod Exports
 pub mod Runner
 pub mod Stepper
+pub mod Refusals

@@ -2,6 +2,7 @@
 -- Assumes nothing.
 use Rattle.processor.proofs as processor
 use Rattle.processor.proofs.Processor as cpu
+use Rattle.processor.proofs.ProcessorDefault as first
 use Rattle.once.specs.Law.{One, Answers, second}
 use Rattle.once.specs.Forms.{answers, gives}
 
@@ -141,3 +142,6 @@ with_state_once = record { same = answers }
 
 pub wake_once : Answers cpu.wake.Reads.Post
 wake_once = record { same = answers }
+
+pub default_once : Answers first.default.Reads.Post
+default_once = record { same = answers }

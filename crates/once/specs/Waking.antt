@@ -2,6 +2,7 @@
 -- Assumes nothing.
 use Rattle.waking.proofs as waking
 use Rattle.waking.proofs.State as state
+use Rattle.waking.proofs.U8FromState as number_of
 use Rattle.once.specs.Law.{Answers}
 use Rattle.once.specs.Forms.{answers}
 
@@ -13,3 +14,6 @@ state_of_once = record { same = answers }
 
 pub is_awake_once : Answers state.is_awake.Reads.Post
 is_awake_once = record { same = answers }
+
+pub number_of_once : Answers number_of.from.Reads.Post
+number_of_once = record { same = answers }
