@@ -1,7 +1,7 @@
 // Blanked images: a chosen byte at every address that a map does not mark.
 #![tactic(auto)]
 
-ghost use Rattle.std.specs.Prelude.{◌≡◌};
+ghost use Rattle.std.specs.Prelude.{◌≡◌, length};
 ghost use Rattle.laws.specs.Lent.{lent};
 ghost use Rattle.laws.specs.Filled.{Fills};
 ghost use Rattle.blanking.specs.Calls.{blank_of};
@@ -29,8 +29,10 @@ pub fn blank(memory: &mut [u8], map: &[u8], byte: u8) -> Result<u32, Refusal>
     Ok(blanked)
 }
 
-// Puts a map together with another, byte by byte: for an image that is to keep what either marks.
-pub fn join<const N: usize>(map: &[u8; N], other: &mut [u8; N])
+// Puts a map together with another, byte by byte: for an image that is to keep what either marks. (Slices, since parts of maps are put
+// together, too, whose common length may be known only when they are cut: arrays would ask for it beforehand.)
+pub fn join(map: &[u8], other: &mut [u8])
+    requires { length map.now ≡ length other.old }
     ensures { other.new ≡ together map.now other.old }
 {
     for (i, own) in other.iter_mut().enumerate() {

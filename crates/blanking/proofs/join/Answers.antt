@@ -14,6 +14,6 @@ next_byte (a ∷ map) (b ∷ before) zero h k = refl
 next_byte (a ∷ map) (b ∷ before) (suc i) h k = ap (λ (l : List ℕ). bit_or a b ∷ l) (next_byte map before i (omega arith) (omega arith))
 
 pub loop-i-preserved : goal.loop-i-preserved
-loop-i-preserved g c =
+loop-i-preserved c =
     rw (c.loop-i.invariant, add-one)
     (next_byte c.args.map.now c.args.other.now c.loop-i.i (omega arith) (omega arith))

@@ -5,4 +5,4 @@ use Rattle.blanking.specs.Together.{together}
 use Rattle.blanking.proofs.join.Given as goal
 
 abbrev pub invariant-loop-i : goal.invariant-loop-i
-invariant-loop-i g l = l.other ≡ together (take l.i l.map) l.initial.other
+invariant-loop-i l = l.other ≡ together (take l.i l.map) l.initial.other
