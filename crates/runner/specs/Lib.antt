@@ -3,3 +3,4 @@ pub mod Told
 pub mod AsBefore
 pub mod Bounds
 pub mod Fits
+pub mod Played

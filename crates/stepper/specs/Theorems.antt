@@ -1,14 +1,18 @@
 -- What the number that is printed says.
 -- Assumes nothing.
-use Rattle.std.specs.Prelude.{ℕ, zero, suc, ◌<◌, ◌≤◌, Bool, true, false, cond, ◌↔◌, ◌≡◌, refl, List, [], ◌∷◌, eqb, length, get_or, take, drop}
+use Rattle.std.specs.Prelude.{ℕ, zero, suc, ◌<◌, ◌≤◌, Bool, true, false, cond, ◌↔◌, ◌≡◌, refl, List, [], ◌∷◌, eqb, length, get_or, take, drop, Ok}
 use Rattle.std.proofs.Common.{◌+◌, ◌∙◌, one-add, arith, length-append, length-drop, eqb-true, eq-eqb}
 use Rattle.std.proofs.lemmas.Bool.{eqb-false}
 use Rattle.std.proofs.lemmas.List.Sums.{common_prefix_len-le}
 use Rattle.memory.specs.World.{world}
+use Rattle.memory.specs.Access.{outcome}
+use Rattle.editions.specs.Editions.{number_of}
+use Rattle.editions.specs.Theorems.{named, number_and_back}
 use Rattle.editions.specs.declared.Edition.{Edition}
 use Rattle.processor.specs.declared.Processor.{Processor}
 use Rattle.state.specs.Registers.{registers_of, bytes_of}
 use Rattle.runs.proofs.Exact.{fresh}
+use Rattle.engine.specs.Entry.{refusal_of, step_answer}
 use Rattle.engine.specs.Provenance.{clear}
 use Rattle.engine.specs.Theorems.{step_keeps}
 use Rattle.stepper.specs.Alike.{alike}
@@ -71,6 +75,13 @@ pub all_alike : (first second : List ℕ) → length first ≡ length second →
 all_alike first second l = (same first second l, λ e. rw (← e) (itself first))
 
 -- ---- what a step leaves
+
+-- It is the public step: of a memory of 65,536 bytes `step_answer` accepts it, and answers and leaves what is compared.
+pub step_is_answered : (edition : Edition) (cpu : Processor) (memory : List ℕ) → length memory ≡ 65536
+    → step_answer (number_of edition) cpu (world memory clear clear)
+    ≡ outcome (Ok (stepped edition cpu memory).result) (stepped edition cpu memory).left
+unfolding refusal_of
+step_is_answered edition cpu memory size = rw (named edition, number_and_back edition, eq-eqb _ _ size)
 
 -- The record that it leaves has 65,543 bytes, as the one that it began with, so the two rows that are compared have one length.
 pub after_step_size : (edition : Edition) (state : List ℕ) → length state ≡ 65543 → length (after_step edition state) ≡ 65543

@@ -6,7 +6,7 @@
 -- the list of accesses t has a read of k, and nothing before it there stores to k.
 -- Assumes nothing.
 use Prim.Native.Nat.{ℕ, zero, suc, ◌+◌, ◌-◌, ◌/◌, ◌%◌, ◌^◌, ◌<◌}
-use Rattle.std.specs.Prelude.{◌≡◌, Bool, ◌||◌, ◌↔◌, get_or}
+use Rattle.std.specs.Prelude.{◌≡◌, Bool, ◌||◌, ◌↔◌, get_or, Option, Some, None, Result, Ok, Err}
 use Rattle.std.proofs.Math.Path.{refl}
 use Rattle.std.proofs.Common.{sym, ◌∙◌, suc-add, arith, eqb-true, eq-eqb}
 use Rattle.std.proofs.Math.Bool.{true, false, or-true}
@@ -16,11 +16,13 @@ use Rattle.std.proofs.Math.Nat.{zero-add, zero-div}
 use Rattle.std.proofs.Math.Decide.{dec_lt}
 use Rattle.std.specs.Int.Bits.{bit_or}
 use Rattle.laws.specs.Bytes.{Bytes, bytes_zeros}
+use Rattle.refusals.specs.declared.Refusal.{Refusal}
 use Rattle.marks.specs.Maps.{is_marked}
 use Rattle.marks.proofs.Laws.{either_bit}
 use Rattle.memory.specs.World.{World, Sized, world}
-use Rattle.memory.specs.Access.{perform}
+use Rattle.memory.specs.Access.{perform, outcome}
 use Rattle.waking.specs.States.{is_awake}
+use Rattle.editions.specs.Editions.{edition_of}
 use Rattle.editions.specs.declared.Edition.{Edition}
 use Rattle.processor.specs.declared.Processor.{Processor}
 use Rattle.runs.specs.Run.{run}
@@ -30,11 +32,37 @@ use Rattle.runs.proofs.Bitmaps.{Bitmaps, bytes_replay}
 use Rattle.runs.proofs.Exact.{fresh, reads_exact}
 use Rattle.runs.proofs.Run.{run_one}
 use Rattle.runs.proofs.Trace.{replays, perform_unmapped}
-use Rattle.engine.specs.Entry.{counted_step, run_of}
+use Rattle.engine.specs.Entry as entry
+use Rattle.engine.specs.Entry.{refusal_of, counted_step, run_of, run_answer}
 use Rattle.engine.specs.Provenance.{clear}
 use Rattle.engine.specs.Theorems.{no_step, step_keeps}
+use Rattle.engine.specs.declared.Ran.{Ran}
 use Rattle.watch.specs.Bits.{is_set, low_bits, high_bits, or_assoc}
+use Rattle.watch.specs.Calls.{watched, watching, answered, watched_run}
 use Rattle.watch.specs.Devices.{alone, devices_of, devices_read}
+use Rattle.watch.specs.declared.Watched.{Watched}
+
+-- ---- the run itself
+
+-- A run's answer, with the device addresses that its steps read beside it.
+abbrev pub with_devices : ℕ → Result Ran Refusal → Result Watched Refusal
+with_devices devices (Ok ran) = Ok (watched ran devices)
+with_devices devices (Err refusal) = Err refusal
+
+-- A watched run answers what the public run does, refusals included, with the device addresses beside it, and leaves the same.
+pub answers_as_run : (number budget : ℕ) (cpu : Processor) (w : World)
+    → let o = run_answer number budget cpu w in
+    watched_run number budget cpu w ≡ outcome (with_devices (devices_read (edition_of number) budget cpu w.memory) o.result) o.left
+answers_as_run number budget cpu w = go (refusal_of number w)
+  where
+    edition : Edition
+    edition = edition_of number
+
+    go : (r : Option Refusal)
+        → let o = entry.answered r w (run_of edition budget cpu w) in
+        answered r w (watching edition budget cpu w) ≡ outcome (with_devices (devices_read edition budget cpu w.memory) o.result) o.left
+    go None = refl
+    go (Some r) = refl
 
 -- ---- runs in parts
 
