@@ -35,9 +35,7 @@ pub fn take_steps(cpu: Processor, edition: Edition, bus: &mut Bus, budget: u32) 
     Ran { cpu: next, steps }
 }
 
-// The same steps on flat registers and cells, at a cost before the first step and behind the last. Not compiled into `run_on`, so that a
-// short run makes no room for the cells.
-#[inline(never)]
+// The same steps on flat registers and cells, at a cost before the first step and behind the last.
 fn take_long(cpu: Processor, edition: Edition, bus: &mut Bus, budget: u32) -> Ran
     ensures { Answers (λ w. told (run_of edition budget cpu w)) bus.old bus.new result }
 {

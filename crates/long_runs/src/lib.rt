@@ -102,7 +102,10 @@ fn take_steps(
     }
 }
 
-// A run on memory and maps whose lengths are known, by way of cells: 131,072 bytes of stack.
+// A run on memory and maps whose lengths are known, by way of cells: 131,072 bytes of stack. Not compiled into its caller, so that a short
+// run makes no room for the cells; and since memory and maps, lent one by one, are then seen to stand apart from the cells, the cells are laid
+// out eight at a time (docs/SPEED.md).
+#[inline(never)]
 pub fn run(
     cpu: Processor,
     edition: Edition,
