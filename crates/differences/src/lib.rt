@@ -1,14 +1,14 @@
 // What differs between two images of memory, and whether it touches what a read map marks.
 #![tactic(auto)]
 
-ghost use Rattle.std.specs.Prelude.{◌≡◌, ◌≢◌, ◌≤◌, ◌*◌, length, MatchResult, true, false};
+ghost use Rattle.std.specs.Prelude.{◌≡◌, ◌≢◌, ◌≤◌, ◌*◌, length, not, MatchResult, true, false};
 ghost use Rattle.std.specs.Option.{option_copied};
 ghost use Rattle.std.specs.Iterator.{YieldsFirst, item_count};
 ghost use Rattle.laws.specs.Lent.{lent};
 ghost use Rattle.laws.specs.Filled.{Fills};
 ghost use Rattle.differences.specs.Stretches.{touches};
-ghost use Rattle.differences.specs.Calls.{stretches_of, marks_of, map_right, accepted, written, differences_of};
-ghost use Rattle.differences.specs.Walk.{left};
+ghost use Rattle.differences.specs.Calls.{differ, stretches_of, marks_of, map_right, accepted, written, differences_of};
+ghost use Rattle.differences.specs.Walk.{Sought, left};
 
 use marks::Map;
 use refusals::Refusal;
@@ -53,6 +53,18 @@ struct Stretches<'a> {
     from: usize,
 }
 
+// The first address from one on at which two memories differ, or at which they do not. (A loop: `find` took twice as many instructions.)
+fn first_from(first: &Memory, second: &Memory, from: usize, differing: bool) -> Option<usize>
+    ensures { Sought (differ first.now second.now) differing (not differing) from result }
+{
+    for at in from..65536 {
+        if (first[at] != second[at]) == differing {
+            return Some(at);
+        }
+    }
+    None
+}
+
 impl Iterator for Stretches<'_> {
     type Item = Stretch;
 
@@ -61,12 +73,8 @@ impl Iterator for Stretches<'_> {
     ghost remaining = { item_count left };
 
     fn next(&mut self) -> Option<Stretch> {
-        let first = self.first;
-        let second = self.second;
-        let at = (self.from..65536).find(|&at| first[at] != second[at])?;
-        let end = (at..65536)
-            .find(|&end| first[end] == second[end])
-            .unwrap_or(65536);
+        let at = first_from(self.first, self.second, self.from, true)?;
+        let end = first_from(self.first, self.second, at, false).unwrap_or(65536);
         self.from = end;
         Some(Stretch {
             first: at as u16,
@@ -136,10 +144,12 @@ pub fn between(
     let first = as_memory(first)?;
     let second = as_memory(second)?;
     let map = optional_map(map)?;
+    // what is equal before the first stretch is passed once, and not in both walks
+    let from = first_from(first, second, 0, true).unwrap_or(65536);
     let stretches = Stretches {
         first,
         second,
-        from: 0,
+        from,
     };
     let found = count(stretches, map);
     let many = found.stretches as usize;
