@@ -1,17 +1,12 @@
 -- The invariant of a loop over the timers: those below k are changed where a test of their numbers says so, and nothing else is.
 -- Assumes nothing.
-use Rattle.std.proofs.Common.{◌≡◌, ℕ, ◌+◌, ◌<◌, ◌≤◌, Bool, true, false, cond, List, length, get_or, set, refl, ap, ◌∙◌, add-one}
+use Rattle.std.proofs.Common.{◌≡◌, ℕ, ◌+◌, ◌<◌, ◌≤◌, Bool, true, false, cond, List, length, set, refl, ap, ◌∙◌, add-one}
 use Rattle.std.proofs.Math.Nat.{zero-div}
 use Rattle.std.proofs.lemmas.List.{set-get_or}
 use Rattle.devices.specs.declared.timer.Timer.{Timer}
 use Rattle.devices.specs.declared.Devices.{Devices}
-use Rattle.devices.specs.Timers.{timer}
-use Rattle.devices.specs.Devices.{bit, numbered}
+use Rattle.devices.specs.Devices.{bit, timer_at, numbered}
 use Rattle.devices.proofs.Numbered.{below, one_more, all_done, numbered_none}
-
--- timer k
-abbrev timer_at : Devices → ℕ → Timer
-timer_at d k = get_or d.timers k (timer false 0 0 0)
 
 -- the same devices with another timer k
 abbrev with_timer : Devices → ℕ → Timer → Devices

@@ -1,5 +1,5 @@
 -- The devices of the processor at 00F0 to 00FF: how they begin, and what reads, stores and cycles do to them.
-use Rattle.std.specs.Prelude.{ℕ, ◌+◌, ◌/◌, ◌%◌, ◌^◌, Bool, false, cond, List, [], ◌∷◌, ◌==◌, bit_or, slice_index}
+use Rattle.std.specs.Prelude.{ℕ, ◌+◌, ◌/◌, ◌%◌, ◌^◌, Bool, false, cond, List, [], ◌∷◌, ◌==◌, bit_or, get_or, slice_index}
 use Rattle.devices.specs.declared.timer.Timer.{Timer}
 use Rattle.devices.specs.declared.Devices.{Devices}
 use Rattle.devices.specs.Timers.{timer, ticked, switched, cleared, aimed}
@@ -11,6 +11,19 @@ bit n j = n / 2 ^ j % 2 == 1
 -- the byte at an address
 abbrev pub byte : List ℕ → ℕ → ℕ
 byte memory a = slice_index memory a
+
+-- ---- the parts
+
+-- Timer k of three, and port k of four.
+abbrev pub timer_at : Devices → ℕ → Timer
+timer_at d k = get_or d.timers k (timer false 0 0 0)
+
+abbrev pub port_at : Devices → ℕ → ℕ
+port_at d k = get_or d.ports k 0
+
+-- Devices of these timers and these ports, the rest as in d. Those of the code are all of this form: their types have three and four.
+abbrev pub with_parts : Timer → Timer → Timer → ℕ → ℕ → ℕ → ℕ → Devices → Devices
+with_parts t0 t1 t2 p0 p1 p2 p3 d = record d { timers = t0 ∷ t1 ∷ t2 ∷ []; ports = p0 ∷ p1 ∷ p2 ∷ p3 ∷ [] }
 
 -- ---- the beginning
 

@@ -3,8 +3,9 @@
 use Rattle.std.specs.Prelude.{ℕ, zero, suc, ◌+◌, Bool, true, false, cond, ◌||◌, List, ◌≡◌, refl, [], ◌∷◌, length, get_or}
 use Rattle.std.proofs.Common.{arith}
 use Rattle.editions.specs.declared.Edition.{Edition}
-use Rattle.devices.specs.Devices.{after_reads, after_stores}
+use Rattle.devices.specs.Devices.{timer_at, port_at, with_parts, after_reads, after_stores}
 use Rattle.devices.specs.declared.Devices.{Devices}
+use Rattle.devices.specs.Timers.{timer}
 use Rattle.devices.specs.Lengths.{Full, after_reads_full, after_stores_full, passed_full}
 use Rattle.host.specs.Turn.{Playing, noted, turn_of}
 use Rattle.host.specs.Play.{goes_on, progress, play_of}
@@ -25,6 +26,11 @@ four_at x (a ∷ []) h = absurd (omega arith)
 four_at x (a ∷ b ∷ []) h = absurd (omega arith)
 four_at x (a ∷ b ∷ c ∷ []) h = absurd (omega arith)
 four_at x (a ∷ b ∷ c ∷ d ∷ e ∷ xs) h = absurd (omega arith)
+
+-- Devices with three timers and four ports are those of these parts.
+pub parts_of_full : (d : Devices) → Full d
+    → with_parts (timer_at d 0) (timer_at d 1) (timer_at d 2) (port_at d 0) (port_at d 1) (port_at d 2) (port_at d 3) d ≡ d
+parts_of_full d full = rw (three_at (timer false 0 0 0) d.timers full.timers, four_at 0 d.ports full.ports)
 
 noted_full : (read stored : ℕ) (memory : List ℕ) (rom : Bool) (cost : ℕ) (d : Devices) → Full d → Full (noted read stored memory rom cost d)
 unfolding noted

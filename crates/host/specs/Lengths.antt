@@ -14,7 +14,7 @@ use Rattle.devices.specs.Devices.{bit}
 use Rattle.devices.specs.declared.Devices.{Devices}
 use Rattle.samples.specs.Lengths.{length_voices}
 use Rattle.host.specs.Chip.{Sound, sound, asked, keyed, keyed_on, stored_to, heard}
-use Rattle.host.specs.Turn.{Playing, counts, laid_out, ready, turn_of}
+use Rattle.host.specs.Turn.{Playing, sent, counts, laid_out, ready, turn_of}
 
 -- The lengths of a playing.
 pub record Whole (p : Playing) : Type 0 where
@@ -28,7 +28,7 @@ pub record Whole (p : Playing) : Type 0 where
 pub length_laid_out : (d : Devices) (chip memory : List ℕ) → length (laid_out d chip memory) ≡ length memory
 unfolding laid_out
 length_laid_out d chip memory =
-    let answers = get_or chip (get_or memory 0xF2 0 % 128) 0 ∷ d.ports in
+    let answers = get_or chip (get_or memory 0xF2 0 % 128) 0 ∷ sent d in
     length-sets (sets memory 0xF3 answers) 0xFD (counts d) ∙ length-sets memory 0xF3 answers
 
 pub ready_sized : (p : Playing) → Sized p.world → Sized (ready p)

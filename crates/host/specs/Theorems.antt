@@ -6,14 +6,13 @@
 -- each has one to take, no more than n; the contract of `play_both` says so. `are_alike p q`: they are alike by their last step.
 -- Assumes nothing.
 use Prim.Native.Nat.{ℕ, zero, suc, ◌+◌, ◌/◌, ◌%◌, ◌<◌, ◌≤◌}
-use Rattle.std.specs.Prelude.{◌≡◌, Bool, ◌&&◌, List, [], ◌∷◌, ◌⊎◌, length, map, get_or, set}
+use Rattle.std.specs.Prelude.{◌≡◌, Bool, ◌&&◌, List, [], ◌∷◌, ◌⊎◌, length, get_or, set}
 use Rattle.std.proofs.Math.Path.{refl, ap₂}
 use Rattle.std.proofs.Common.{ap, ◌∙◌, ⊎_elim, suc-add, add-one, get_or-set_other}
 use Rattle.std.proofs.Math.Bool.{true, false}
 use Rattle.std.proofs.lemmas.Bool.{false≢true}
 use Rattle.std.proofs.Math.Nat.{zero-add}
 use native.Mathlib.Omega.{arith}
-use Rattle.std.proofs.lemmas.List.{length-map}
 use Rattle.std.proofs.lemmas.List.Edits.{sets}
 use Rattle.marks.specs.Maps.{is_marked}
 use Rattle.memory.specs.World.{World, Sized, world}
@@ -23,8 +22,7 @@ use Rattle.engine.specs.Entry.{counted_step}
 use Rattle.watch.proofs.Byte.{both, byte_of, same_byte}
 use Rattle.watch.proofs.Maps.{get_other}
 use Rattle.devices.specs.declared.Devices.{Devices}
-use Rattle.devices.specs.Lengths.{Full}
-use Rattle.host.specs.Turn.{Playing, laid_out, ready, turn_of}
+use Rattle.host.specs.Turn.{Playing, sent, counts, laid_out, ready, turn_of}
 use Rattle.host.specs.Play.{goes_on, Progress, progress, play_of}
 use Rattle.host.specs.Beside.{are_alike, Pair, pair, beside_of}
 use Rattle.host.specs.Lengths.{ready_sized}
@@ -49,20 +47,16 @@ sets_behind [] l i k h = refl
 sets_behind (v ∷ vs) l i k h = sets_behind vs (set l i v) (suc i) k (omega arith) ∙ get_or-set_other l i k v 0 (λ e. omega arith)
 
 -- No byte of memory outside 00F3 to 00FF is changed; and the length stays (Lengths).
-pub laid_out_only_devices : (d : Devices) → Full d → (chip memory : List ℕ) (a : ℕ) → Outside 0xF3 0xFF a
+pub laid_out_only_devices : (d : Devices) (chip memory : List ℕ) (a : ℕ) → Outside 0xF3 0xFF a
     → get_or (laid_out d chip memory) a 0 ≡ get_or memory a 0
 unfolding laid_out
-laid_out_only_devices d full chip memory a =
+laid_out_only_devices d chip memory a =
     ⊎_elim
-    (λ h. sets_before counts (sets memory 0xF3 answers) 0xFD a (omega arith) ∙ sets_before answers memory 0xF3 a h)
-    (λ h. sets_behind counts (sets memory 0xF3 answers) 0xFD a (omega (arith, length-map d.timers (λ t. t.count), full.timers))
-    ∙ sets_behind answers memory 0xF3 a (omega (arith, full.ports)))
+    (λ h. sets_before (counts d) (sets memory 0xF3 answers) 0xFD a (omega arith) ∙ sets_before answers memory 0xF3 a h)
+    (λ h. sets_behind (counts d) (sets memory 0xF3 answers) 0xFD a (omega arith) ∙ sets_behind answers memory 0xF3 a (omega arith))
   where
     answers : List ℕ
-    answers = get_or chip (get_or memory 0xF2 0 % 128) 0 ∷ d.ports
-
-    counts : List ℕ
-    counts = map (λ t. t.count) d.timers
+    answers = get_or chip (get_or memory 0xF2 0 % 128) 0 ∷ sent d
 
 -- On memory and maps of the right lengths, no mark of an address outside 00F0 to 00FF is set or cleared: both maps have there what the step
 -- leaves of those that there were.

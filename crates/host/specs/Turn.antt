@@ -1,5 +1,5 @@
 -- One step of a song: the devices are laid out in memory, the step is taken, and what it has read and stored there goes to the devices.
-use Rattle.std.specs.Prelude.{ℕ, ◌%◌, Bool, ◌&&◌, ◌||◌, List, ◌∷◌, map, get_or}
+use Rattle.std.specs.Prelude.{ℕ, ◌%◌, Bool, ◌&&◌, ◌||◌, List, [], ◌∷◌, get_or}
 use Rattle.std.proofs.lemmas.List.Edits.{sets}
 use Rattle.memory.specs.World.{World, world}
 use Rattle.memory.specs.Access.{Outcome, outcome, perform}
@@ -9,7 +9,7 @@ use Rattle.engine.specs.Entry.{counted_step}
 use Rattle.watch.specs.Devices.{devices_of}
 use Rattle.watch.specs.Marks.{with_marks}
 use Rattle.cycles.specs.Cost.{cost_of}
-use Rattle.devices.specs.Devices.{bit, after_reads, after_stores, passed}
+use Rattle.devices.specs.Devices.{bit, timer_at, port_at, after_reads, after_stores, passed}
 use Rattle.devices.specs.declared.Devices.{Devices}
 use Rattle.boot_rom.specs.Reading.{reads_rom}
 use Rattle.boot_rom.specs.declared.Stepped.{Stepped}
@@ -29,16 +29,19 @@ playing cpu devices w s =
 
 -- ---- before the step
 
--- the counters of the timers
+-- what the console sent last to each of the four ports, and the counters of the three timers
+abbrev pub sent : Devices → List ℕ
+sent d = port_at d 0 ∷ port_at d 1 ∷ port_at d 2 ∷ port_at d 3 ∷ []
+
 abbrev pub counts : Devices → List ℕ
-counts d = map (λ t. t.count) d.timers
+counts d = (timer_at d 0).count ∷ (timer_at d 1).count ∷ (timer_at d 2).count ∷ []
 
 -- What the devices answer stands in memory: at 00F3 the sound register that 00F2 names, at 00F4 to 00F7 what the console sent last, at 00FD
 -- to 00FF the counters of the timers. All else is as it was: at the other device addresses, what was stored there last.
 unfoldable pub laid_out : Devices → List ℕ → List ℕ → List ℕ
 laid_out d chip memory =
     sets
-    (sets memory 0xF3 (get_or chip (get_or memory 0xF2 0 % 128) 0 ∷ d.ports))
+    (sets memory 0xF3 (get_or chip (get_or memory 0xF2 0 % 128) 0 ∷ sent d))
     0xFD
     (counts d)
 

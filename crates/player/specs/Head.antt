@@ -1,5 +1,5 @@
 -- The head of a packet, 64 bytes: what is asked, and the player. Bytes that are not named have no meaning, and stay.
-use Rattle.std.specs.Prelude.{ℕ, ◌+◌, ◌*◌, ◌/◌, ◌%◌, Bool, false, cond, not, ◌&&◌, List, [], ◌∷◌, ◌++◌, eqb, leb, get_or, set, take, drop, Result, Ok, Err}
+use Rattle.std.specs.Prelude.{ℕ, ◌+◌, ◌*◌, ◌/◌, ◌%◌, Bool, cond, not, ◌&&◌, List, [], ◌∷◌, ◌++◌, eqb, leb, get_or, set, take, drop, Result, Ok, Err}
 use Rattle.std.proofs.lemmas.List.Edits.{sets}
 use Rattle.psw.specs.Status.{one_if}
 use Rattle.processor.specs.Record.{word_of}
@@ -8,6 +8,8 @@ use Rattle.refusals.specs.declared.Refusal.TheVariants as reason
 use Rattle.editions.specs.Editions.{is_edition, edition_of}
 use Rattle.state.specs.Registers.{is_whole, whole_bytes_of, four_bytes}
 use Rattle.devices.specs.Timers.{timer}
+pub use Rattle.devices.specs.Devices.{timer_at}
+use Rattle.devices.specs.Devices.{port_at}
 use Rattle.devices.specs.declared.timer.Timer.{Timer}
 use Rattle.devices.specs.declared.Devices.{Devices}
 use Rattle.host.specs.declared.Player.{Player}
@@ -78,10 +80,6 @@ two_bytes n = n % 256 ∷ n / 256 ∷ []
 abbrev timer_bytes : Timer → List ℕ
 timer_bytes t = one_if t.on ∷ t.target ∷ t.ticks ∷ t.count ∷ []
 
--- timer k of three
-abbrev pub timer_at : Devices → ℕ → Timer
-timer_at d k = get_or d.timers k (timer false 0 0 0)
-
 unfoldable pub devices_bytes : Devices → List ℕ
 devices_bytes d =
     four_bytes d.cycles
@@ -91,7 +89,7 @@ devices_bytes d =
     ++ one_if d.rom ∷ timer_bytes (timer_at d 0)
     ++ timer_bytes (timer_at d 1)
     ++ timer_bytes (timer_at d 2)
-    ++ get_or d.ports 0 0 ∷ get_or d.ports 1 0 ∷ get_or d.ports 2 0 ∷ get_or d.ports 3 0 ∷ []
+    ++ port_at d 0 ∷ port_at d 1 ∷ port_at d 2 ∷ port_at d 3 ∷ []
 
 -- The head of an answer: it goes on from here, with these registers at 10, after so many steps, told at 18, and with these devices at 23.
 abbrev pub head_of : List ℕ → Player → ℕ → List ℕ

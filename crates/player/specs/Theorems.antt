@@ -14,6 +14,7 @@ use Rattle.laws.specs.Table.{same_table}
 use Rattle.marks.specs.Maps.{is_marked}
 use Rattle.psw.specs.Status.{one_if}
 use Rattle.processor.specs.Record.{word_of}
+use Rattle.processor.specs.declared.Processor.{Processor}
 use Rattle.state.specs.Registers.{bytes_of, whole_bytes_of, whole_of, four_bytes}
 use Rattle.state.specs.Theorems.{record_to_whole_and_back}
 use Rattle.editions.specs.Editions.{edition_of}
@@ -24,20 +25,20 @@ use Rattle.watch.specs.Marks.{with_marks}
 use Rattle.watch.proofs.Maps.{get_low, get_high, get_other}
 use Rattle.blanking.specs.Together.{together, together_size, marks_of_either}
 use Rattle.devices.specs.declared.Devices.{Devices}
-use Rattle.devices.specs.Devices.{started}
+use Rattle.devices.specs.declared.timer.Timer.{Timer}
+use Rattle.devices.specs.Devices.{timer_at, port_at, with_parts, started}
 use Rattle.devices.specs.Lengths.{Full, started_full}
-use Rattle.devices.specs.Timers.{timer}
 use Rattle.samples.specs.Fetched.{voices}
 use Rattle.samples.specs.Lengths.{length_voices}
 use Rattle.host.specs.Turn.{Playing}
 use Rattle.host.specs.Play.{Progress}
-use Rattle.host.specs.Full.{three_at, four_at, play_full}
+use Rattle.host.specs.Full.{parts_of_full, play_full}
 use Rattle.host.specs.Lengths.{Whole}
 use Rattle.host.specs.Theorems.{Outside}
 use Rattle.host.specs.Exact as exact
 use Rattle.host.specs.Exact.{accesses, unmarked_same}
 use Rattle.host.specs.declared.Player.{Player}
-use Rattle.player.specs.Head.{edition_in, budget_in, until_in, begins_in, registers_in, devices_in, devices_of, devices_bytes, head_of, timer_at}
+use Rattle.player.specs.Head.{edition_in, budget_in, until_in, begins_in, registers_in, devices_in, devices_of, devices_bytes, head_of}
 use Rattle.player.specs.Packet.{Packet, refusal_of, Start, start, start_of, begun_of, made_of, finished, played_of}
 use Rattle.player.specs.Accepted.{Accepted, accepts, accepted}
 use Rattle.player.specs.Promises.{played_to}
@@ -48,10 +49,11 @@ flag_again : (flag : Bool) → not (eqb (one_if flag) 0) ≡ flag
 flag_again true = refl
 flag_again false = refl
 
--- Devices that go into 27 bytes come back as they were, three timers and four ports.
-pub devices_and_back : (d : Devices) → Full d → devices_of (devices_bytes d) ≡ d
+-- Devices that go into 27 bytes come back as they were, whatever their three timers, their four ports and the rest of them are.
+pub devices_and_back : (t0 t1 t2 : Timer) (p0 p1 p2 p3 : ℕ) (rest : Devices)
+    → let d = with_parts t0 t1 t2 p0 p1 p2 p3 rest in devices_of (devices_bytes d) ≡ d
 unfolding devices_of devices_bytes
-devices_and_back d full =
+devices_and_back t0 t1 t2 p0 p1 p2 p3 d =
     let four : d.cycles % 256 + 256 * (d.cycles / 256 % 256) + 65536 * (d.cycles / 65536 % 256) + 16777216 * (d.cycles / 16777216)
     ≡ d.cycles = omega arith in
     let two : (n : ℕ) → word_of (n % 256) (n / 256) ≡ n = λ n. omega arith in
@@ -61,12 +63,16 @@ devices_and_back d full =
       two d.stored,
       two d.last,
       flag_again d.rom,
-      flag_again (timer_at d 0).on,
-      flag_again (timer_at d 1).on,
-      flag_again (timer_at d 2).on,
-      three_at (timer false 0 0 0) d.timers full.timers,
-      four_at 0 d.ports full.ports,
+      flag_again t0.on,
+      flag_again t1.on,
+      flag_again t2.on,
     )
+
+-- The same of devices whose lists are said to have these lengths.
+pub devices_and_back_full : (d : Devices) → Full d → devices_of (devices_bytes d) ≡ d
+devices_and_back_full d full =
+    subst (λ (e : Devices). devices_of (devices_bytes e) ≡ e) (parts_of_full d full)
+    (devices_and_back (timer_at d 0) (timer_at d 1) (timer_at d 2) (port_at d 0) (port_at d 1) (port_at d 2) (port_at d 3) d)
 
 -- Bytes hold three timers and four ports, and so do those of an image; so there are as many to the end of a playing.
 begun_full : (p : Packet) → Full (begun_of p).player.devices
@@ -214,21 +220,27 @@ module _ (head : List ℕ) (size : length head ≡ 64) (player : Player) (steps 
   unfolding devices_bytes
   devices_there = stored_part (devices_bytes player.devices) three 23 (omega (arith, three_size))
 
+-- A player by its parts, and where it stands in a head.
+module _ (head : List ℕ) (size : length head ≡ 64) (steps : ℕ)
+    (cpu : Processor) (t0 t1 t2 : Timer) (p0 p1 p2 p3 : ℕ) (rest : Devices) where
+  abbrev player : Player
+  player = record { cpu = cpu; devices = with_parts t0 t1 t2 p0 p1 p2 p3 rest }
+
   -- Who begins from it has the player back.
-  player_back : Full player.devices → (chip memory writes fetched : List ℕ)
+  player_back : (chip memory writes fetched : List ℕ)
       → start_of (head_of head player steps) chip memory writes fetched ≡ record { player = player; fetched = fetched }
   unfolding start_of
-  player_back full chip memory writes fetched =
-      let later : eqb (get_or (head_of head player steps) 9 0) 0 ≡ false = rw goes in
-      let cpu = ap whole_of registers_there ∙ record_to_whole_and_back player.cpu in
-      let devices = ap devices_of devices_there ∙ devices_and_back player.devices full in
-      rw (later, cpu, devices)
+  player_back chip memory writes fetched =
+      let later : eqb (get_or (head_of head player steps) 9 0) 0 ≡ false = rw (goes head size player steps) in
+      let registers = ap whole_of (registers_there head size player steps) ∙ record_to_whole_and_back cpu in
+      let devices = ap devices_of (devices_there head size player steps) ∙ devices_and_back t0 t1 t2 p0 p1 p2 p3 rest in
+      rw (later, registers, devices)
 
   -- So does a packet with this head, in which a playing was left.
-  from_there : Full player.devices → (q : Playing) → q.player ≡ player → GoesOn q (begun_of (finished (head_of head player steps) q))
+  from_there : (q : Playing) → q.player ≡ player → GoesOn q (begun_of (finished (head_of head player steps) q))
   unfolding finished
-  from_there full q is =
-      let back = player_back full q.chip q.world.memory (with_marks q.world.writes 0) q.fetched in
+  from_there q is =
+      let back = player_back q.chip q.world.memory (with_marks q.world.writes 0) q.fetched in
       record {
         player = ap (λ (s : Start). s.player) back ∙ sym is;
         memory = refl;
@@ -237,6 +249,18 @@ module _ (head : List ℕ) (size : length head ≡ 64) (player : Player) (steps 
         chip = refl;
         fetched = ap (λ (s : Start). s.fetched) back;
       }
+
+-- The same of a player whose devices are said to have three timers and four ports.
+from_there_full : (head : List ℕ) (size : length head ≡ 64) (steps : ℕ) (player : Player) → Full player.devices
+    → (q : Playing) → q.player ≡ player → GoesOn q (begun_of (finished (head_of head player steps) q))
+from_there_full head size steps player full =
+    let d = player.devices in
+    subst
+    (λ (e : Devices). let again : Player = record { cpu = player.cpu; devices = e } in
+    (q : Playing) → q.player ≡ again → GoesOn q (begun_of (finished (head_of head again steps) q)))
+    (parts_of_full d full)
+    (from_there head size steps player.cpu (timer_at d 0) (timer_at d 1) (timer_at d 2) (port_at d 0) (port_at d 1) (port_at d 2)
+    (port_at d 3) d)
 
 module _ (p : Packet) (z : refusal_of p ≡ Ok tt) where
   abbrev o : Progress
@@ -250,7 +274,7 @@ module _ (p : Packet) (z : refusal_of p ≡ Ok tt) where
   pub goes_on : GoesOn (played_to p).playing (begun_of (played_of p).left)
   goes_on =
       subst (λ (l : Packet). GoesOn o.playing (begun_of l)) (sym left_is)
-      (from_there p.head (accepted p z).head o.playing.player o.steps (played_full p) o.playing refl)
+      (from_there_full p.head (accepted p z).head o.steps o.playing.player (played_full p) o.playing refl)
 
 -- ---- marks that were taken out
 

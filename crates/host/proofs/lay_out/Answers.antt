@@ -1,12 +1,13 @@
 -- The bytes are stored one after the other, in the order of the definition: those of the timers in a loop.
 -- Assumes nothing.
-use Rattle.std.proofs.Common.{◌≡◌, List, [], ◌∷◌, ℕ, ◌%◌, false, get_or, length, sym, refl, ap, ◌∙◌, arith}
+use Rattle.std.proofs.Common.{List, ◌∷◌, ◌%◌, false, get_or, map, sym, refl, ap, ◌∙◌, arith}
 use Rattle.std.proofs.Math.ListN.{get_or-map}
 use Rattle.std.proofs.lemmas.List.{length-map}
 use Rattle.std.proofs.lemmas.List.Edits.{sets}
 use Rattle.devices.specs.Timers.{timer}
-use Rattle.host.specs.Turn.{counts, laid_out}
-use Rattle.host.specs.Full.{four_at}
+use Rattle.devices.specs.declared.timer.Timer.{Timer}
+use Rattle.host.specs.Turn.{sent, laid_out}
+use Rattle.host.specs.Full.{three_at}
 use Rattle.host.proofs.Laying.{begun, one_laid, all_laid}
 use Rattle.host.proofs.lay_out.Goals as goal
 
@@ -24,4 +25,5 @@ returns c =
     let d = c.args.devices in
     let named = get_or c.args.chip.now (get_or c.args.memory.now 0xF2 0 % 128) 0 in
     all_laid _ _ _ c.loop-k.invariant (simp length-map (omega arith))
-    ∙ ap (λ (ports : List ℕ). sets (sets c.args.memory.now 0xF3 (named ∷ ports)) 0xFD (counts d)) (four_at 0 d.ports (omega arith))
+    ∙ ap (λ (timers : List Timer). sets (sets c.args.memory.now 0xF3 (named ∷ sent d)) 0xFD (map (λ t. t.count) timers))
+    (sym (three_at (timer false 0 0 0) d.timers (omega arith)))
