@@ -8,7 +8,7 @@ nothing = []
 
 -- `post` is a function's contract as the toolchain reads it off the source, less what it asks of the arguments: it speaks of the
 -- call's lifetimes, its arguments, its result and its parameters at exit. `lent` is the content at exit of all that the function
--- may write to.
+-- may write to; of what a struct borrows, as a bus, also which it is then (Forms: `lent_bus` and the like), since another loan could be put there.
 module _ {K : Type 0} {A R E : K → Type 0} where
   -- Two outcomes that meet the contract for the same arguments coincide.
   pub record One {X : Type 0} (post : (κ : K) → A κ → R κ → E κ → Type 0) (lent : (κ : K) → E κ → X) : Type 0 where
